@@ -1,6 +1,6 @@
 -- How the log is printed: a line for each item. A line has the world's name, an arrow (`<<` for a fresh delivery, `<` for
 -- another one, `>` for a product), a word and its values, with one space between them.
-use Rattle.std.specs.Prelude.{ℕ, List, [], ◌∷◌, ◌++◌, codes, decimal, true, false}
+use Rattle.std.specs.Prelude.{ℕ, refl, List, [], ◌∷◌, ◌++◌, codes, decimal, true, false}
 use Rattle.std.specs.List.{flat_map}
 use Rattle.wl_text.specs.Text.{quoted}
 use Rattle.world_kind.specs.declared.WorldKind.{WorldKind}
@@ -16,6 +16,10 @@ use Rattle.world_log.specs.declared.entry.Entry.TheVariants as entries
 use Rattle.world_log.specs.declared.entry.LogItem.{LogItem}
 use Rattle.world_log.specs.declared.entry.LogItem.TheVariants.{World}
 use Rattle.world_log.specs.declared.entry.WorldName.{WorldName}
+
+-- the name of the main world
+abbrev pub main_name : WorldName
+main_name = record { kind = Main; window = 0; generation = 0; main_window = λ _. refl; main_generation = λ _. refl }
 
 -- `main`, or as `preload1.2` the kind, the window and its generation
 abbrev pub name_of : WorldKind → ℕ → ℕ → List ℕ

@@ -1,0 +1,2 @@
+pub mod Displayed
+pub mod Fronts
