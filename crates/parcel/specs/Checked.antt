@@ -8,18 +8,14 @@ use Rattle.parcel.specs.declared.parcel.Item.TheVariants.{Num, Str, Node, Fn, Pr
 use Rattle.parcel.specs.declared.parcel.PNode.{PNode}
 use Rattle.parcel.specs.declared.parcel.PNode.TheVariants.{Object, Array, Error, Map, Set, Port, Buffer, View}
 use Rattle.parcel.specs.declared.parcel.Parcel.{Parcel}
+use Rattle.parcel.specs.declared.tally.Tally.{Tally}
 
 infixl 10 ◌>>=◌
 abbrev pub ◌>>=◌ : {A B : Type 0} → Option A → (A → Option B) → Option B
 None >>= f = None
 (Some x) >>= f = f x
 
--- what a walk has met: nodes (the next number that one takes), items, and units of text
-pub record Tally : Type 0 where
-  pub nodes : ℕ
-  pub items : ℕ
-  pub units : ℕ
-
+-- Nothing was met yet.
 abbrev pub nothing_met : Tally
 nothing_met = record { nodes = 0; items = 0; units = 0 }
 

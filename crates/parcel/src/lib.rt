@@ -2,5 +2,7 @@
 #![tactic(auto)]
 
 mod parcel;
+mod tally;
 
 pub use parcel::{ErrorKind, Item, PNode, Parcel, Side};
+pub use tally::Tally;
