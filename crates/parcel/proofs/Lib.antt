@@ -1,0 +1,4 @@
+pub mod Digits
+pub mod Ranges
+pub mod Turning
+pub mod Counting

@@ -101,17 +101,24 @@ node_met visit nodes number (View buffer offset size) met =
     buffer_met buffer offset size (slice_get nodes buffer) met >>= numbered number
 node_met visit nodes number node met = numbered number met >>= contents_met visit node
 
--- An item where `depth` levels are left, its own among them. A node met before isn't visited again.
+-- A node by its number: one that was met before isn't visited again.
+abbrev pub reference_met : (Item → Tally → Option Tally) → List PNode → ℕ → Tally → Option Tally
+reference_met visit nodes number met = if nat_lt number met.nodes then Some met
+    else slice_get nodes number >>= λ node. node_met visit nodes number node met
+
+-- What an item is, once it was counted.
+unfoldable pub value_met : (Item → Tally → Option Tally) → List PNode → Item → Tally → Option Tally
+value_met visit nodes (Num n) met = only_if (is_safe n) met
+value_met visit nodes (Str units) met = with_text units met
+value_met visit nodes (Fn side number) met = only_if (is_word number) met
+value_met visit nodes (Prom side number) met = only_if (is_word number) met
+value_met visit nodes (Node number) met = reference_met visit nodes number met
+value_met visit nodes _ met = Some met
+
+-- An item where `depth` levels are left, its own among them.
 unfoldable pub item_met : ℕ → List PNode → Item → Tally → Option Tally
 item_met zero nodes item met = None
-item_met (suc depth) nodes (Num n) met = with_item met >>= only_if (is_safe n)
-item_met (suc depth) nodes (Str units) met = with_item met >>= with_text units
-item_met (suc depth) nodes (Fn side number) met = with_item met >>= only_if (is_word number)
-item_met (suc depth) nodes (Prom side number) met = with_item met >>= only_if (is_word number)
-item_met (suc depth) nodes (Node number) met = with_item met
-    >>= λ met. if nat_lt number met.nodes then Some met
-    else slice_get nodes number >>= λ node. node_met (item_met depth nodes) nodes number node met
-item_met (suc depth) nodes item met = with_item met
+item_met (suc depth) nodes item met = with_item met >>= value_met (item_met depth nodes) nodes item
 
 -- what is met from the root; its nesting is 0, and 1,000 levels may follow
 unfoldable pub all_met : Parcel → Option Tally

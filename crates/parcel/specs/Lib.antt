@@ -1,3 +1,5 @@
 pub mod Keys
 pub mod Checked
 pub mod Plain
+pub mod Sides
+pub mod Turn

@@ -1,8 +1,14 @@
 //! Parcels: values without locations, as they cross between worlds.
 #![tactic(auto)]
 
+mod keys;
 mod parcel;
+mod sides;
 mod tally;
+mod walk;
 
-pub use parcel::{ErrorKind, Item, PNode, Parcel, Side};
+pub use keys::array_index;
+pub use parcel::{ErrorKind, Item, Mem, PNode, Parcel, Side};
+pub use sides::{copy, swap_sides, swap_sides_twice};
 pub use tally::Tally;
+pub use walk::check;
