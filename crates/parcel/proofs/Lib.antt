@@ -1,4 +1,5 @@
 pub mod Digits
 pub mod Ranges
+pub mod Showing
 pub mod Turning
 pub mod Counting

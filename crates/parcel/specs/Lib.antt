@@ -3,3 +3,4 @@ pub mod Checked
 pub mod Plain
 pub mod Sides
 pub mod Turn
+pub mod Text

@@ -5,10 +5,15 @@ mod keys;
 mod parcel;
 mod sides;
 mod tally;
+mod text;
 mod walk;
 
 pub use keys::array_index;
 pub use parcel::{ErrorKind, Item, Mem, PNode, Parcel, Side};
 pub use sides::{copy, swap_sides, swap_sides_twice};
 pub use tally::Tally;
+pub use text::show;
 pub use walk::check;
+
+#[cfg(test)]
+mod tests;
