@@ -1,4 +1,3 @@
-pub mod Digits
 pub mod Ranges
 pub mod Showing
 pub mod Turning

@@ -1,18 +1,8 @@
 -- Property keys in their order (ECMA-262, 10.1.11 OrdinaryOwnPropertyKeys; array indices: 6.1.7, The Object Type).
-use Rattle.std.specs.Prelude.{ℕ, suc, ◌==◌, ◌&&◌, ◌||◌, nat_le, Bool, true, false, not, List, [], ◌∷◌, length, Option, Some, None, if◌then◌else◌, nat_eq}
+use Rattle.std.specs.Prelude.{ℕ, suc, ◌&&◌, nat_le, Bool, true, false, not, List, [], ◌∷◌, Option, Some, None, nat_eq}
 use Rattle.std.specs.Cmp.Lexicographic.{pointwise}
 use Rattle.std.specs.List.{list_any}
-use Rattle.std.specs.Str.{all_ascii_digits}
-use Rattle.std.specs.Str.Parse.{digits_value}
-
--- decimal digits with no needless zero in front
-abbrev pub is_decimal : List ℕ → Bool
-is_decimal [] = false
-is_decimal (digit ∷ digits) = (not (digit == 48) || (length digits == 0)) && all_ascii_digits (digit ∷ digits)
-
--- the array index that the text is, if it is one: the decimal text of a number up to 2^32 - 2
-unfoldable pub index_of : List ℕ → Option ℕ
-index_of text = if is_decimal text && nat_le (digits_value 10 text) 4_294_967_294 then Some (digits_value 10 text) else None
+use Rattle.wl_text.specs.Number.{index_of}
 
 -- The least index that the next key may be, once an index was met: the one above. After a name no index may come.
 abbrev pub index_after : Option ℕ → Option ℕ

@@ -8,7 +8,6 @@ mod tally;
 mod text;
 mod walk;
 
-pub use keys::array_index;
 pub use parcel::{ErrorKind, Item, Mem, PNode, Parcel, Side};
 pub use sides::{copy, swap_sides, swap_sides_twice};
 pub use tally::Tally;
