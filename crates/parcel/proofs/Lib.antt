@@ -1,0 +1,4 @@
+pub mod Ranges
+pub mod Showing
+pub mod Turning
+pub mod Counting
