@@ -9,6 +9,7 @@ fn text(rt: &HostRuntime, text: &str) -> Result<Units, TextFault> {
 }
 
 #[test]
+#[tactic(auto, unfolding(crate::specs::Nodes::StandsBelow, crate::specs::Children::children))]
 fn a_tree_keeps_nodes_places_and_its_root(rt: HostRuntime) -> Result<(), Fail> {
     let mut tree = Tree::new(rt.alloc());
     assert!(rt; tree.is_empty());
@@ -45,6 +46,7 @@ fn a_tree_keeps_nodes_places_and_its_root(rt: HostRuntime) -> Result<(), Fail> {
 }
 
 #[test]
+#[tactic(auto, unfolding(crate::specs::Nodes::StandsBelow, crate::specs::Children::children))]
 fn nodes_with_lists_and_texts_are_copied(rt: HostRuntime) -> Result<(), Fail> {
     let mut tree = Tree::new(rt.alloc());
     let bind = Node::BindName(text(&rt, "a")?);

@@ -1,6 +1,6 @@
 //! A syntax tree.
 ghost use Rattle.std.specs.Prelude.{◌≡◌, ◌<◌, ◌+◌, ◌^◌, ◌-◌, ◌↔◌, [], ◌∷◌, ◌++◌, length, IsTrue, IfOk, OnErr, MatchOption};
-ghost use Rattle.js_tree.specs.Nodes.{node_at, place_at, StandsBelow};
+ghost use Rattle.js_tree.specs.Nodes.{node_at, place_at, StandsBelow, IsTree};
 
 use crate::node::{Node, NodeId};
 use std::alloc::{AllocError, Global};
@@ -97,6 +97,14 @@ impl Tree {
         ensures { IsTrue result ↔ (self.now ≡ []) }
     {
         self.nodes.is_empty()
+    }
+
+    /// Each child stands before its parent.
+    #[tactic(auto, unfolding(crate::specs::Nodes::IsTree, crate::specs::Nodes::node_at))]
+    pub fn ordered(&self)
+        ensures { IsTree self.now }
+    {
+        let _nodes = &self.nodes;
     }
 
     /// The same tree again. It takes time in proportion to the nodes.
