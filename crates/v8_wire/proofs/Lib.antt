@@ -3,3 +3,12 @@ pub mod Texts
 pub mod Refusals
 pub mod Turns
 pub mod Puts
+pub mod NumbersAgain
+pub mod StringsAgain
+pub mod Again
+pub mod LeavesAgain
+pub mod NodesAgain
+pub mod ListsAgain
+pub mod TurnsAgain
+pub mod KeysAgain
+pub mod NestedAgain

@@ -5,6 +5,7 @@ mod contents;
 mod fault;
 mod key;
 mod kind;
+mod laws;
 mod leaf;
 mod met;
 mod number;
