@@ -12,3 +12,4 @@ pub mod ListsAgain
 pub mod TurnsAgain
 pub mod KeysAgain
 pub mod NestedAgain
+pub mod WholeAgain

@@ -1,11 +1,21 @@
-//! Laws of the bytes.
-ghost use Rattle.std.specs.Prelude.{◌≡◌, ℕ, ◌++◌, List, Ok, ℤ, IsTrue};
-ghost use Rattle.parcel.specs.Checked.{is_safe};
-ghost use Rattle.v8_wire.specs.Number.{number_at};
-ghost use Rattle.v8_wire.specs.Spelling.{number};
+//! Laws of the bytes: functions with empty bodies, whose clauses are the laws.
+ghost use Rattle.std.specs.Prelude.{◌≡◌, ℕ, ◌<◌, List, length, take, IsTrue, Ok};
+ghost use Rattle.parcel.specs.Checked.{IsChecked};
+ghost use Rattle.parcel.specs.Plain.{IsPlain, ports_below};
+ghost use Rattle.parcel.specs.declared.parcel.Parcel.{Parcel};
+ghost use Rattle.v8_wire.specs.Item.{parcel_at};
+ghost use Rattle.v8_wire.specs.Spelling.{spelled};
 
-/// trial
-pub fn number_law()
-    ensures { (z : ℤ) → IsTrue (is_safe z) → number z ≡ number z }
+/// Every spelling reads as its parcel: what `put` wrote of a checked parcel without functions and promises, `take` reads
+/// as that parcel, where as many ports came along as its ports' places need.
+pub fn spellings_are_read()
+    ensures { (parcel : Parcel) (ports : ℕ) → IsChecked parcel → IsPlain parcel → IsTrue (ports_below ports parcel)
+        → parcel_at ports (spelled parcel) ≡ Ok parcel }
+{
+}
+
+/// Bytes read as at most one parcel.
+pub fn bytes_read_once()
+    ensures { (bytes : List ℕ) (ports : ℕ) (a b : Parcel) → parcel_at ports bytes ≡ Ok a → parcel_at ports bytes ≡ Ok b → a ≡ b }
 {
 }

@@ -20,5 +20,6 @@ mod view;
 mod writing;
 
 pub use kind::{WireFault, WireKind};
+pub use laws::{bytes_read_once, spellings_are_read};
 pub use putting::put;
 pub use taking::take;
