@@ -13,3 +13,5 @@ pub mod TurnsAgain
 pub mod KeysAgain
 pub mod NestedAgain
 pub mod WholeAgain
+pub mod Holds
+pub mod Told
