@@ -101,13 +101,13 @@ key-again at text least le may = by least (index_of text) refl may
 eqb-sym : (a b : ℕ) → eqb a b ≡ eqb b a
 eqb-sym a b = elim (eqb_tells a b) [ inl h ↦ h.0 ∙ sym (eq-eqb b a (sym h.1)) | inr h ↦ h.0 ∙ sym (ne_eqb b a (λ e. h.1 (sym e))) ]
 
-pointwise-sym : (a b : List ℕ) → pointwise nat_eq a b ≡ pointwise nat_eq b a
+pub pointwise-sym : (a b : List ℕ) → pointwise nat_eq a b ≡ pointwise nat_eq b a
 pointwise-sym [] [] = refl
 pointwise-sym [] (y ∷ b) = refl
 pointwise-sym (x ∷ a) [] = refl
 pointwise-sym (x ∷ a) (y ∷ b) = rw (eqb-sym x y, pointwise-sym a b) refl
 
-or_false : (a b : Bool) → (a || b) ≡ false → (a ≡ false) × (b ≡ false)
+pub or_false : (a b : Bool) → (a || b) ≡ false → (a ≡ false) × (b ≡ false)
 or_false true b h = absurd cc
 or_false false b h = (refl, h)
 

@@ -15,3 +15,4 @@ pub mod NestedAgain
 pub mod WholeAgain
 pub mod Holds
 pub mod Told
+pub mod NestedTold

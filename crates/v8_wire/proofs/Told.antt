@@ -68,14 +68,14 @@ bytes-unpadded (zero ∷ bytes) h = bytes-unpadded bytes h
 bytes-unpadded (suc b ∷ bytes) h = h
 
 -- units that were counted
-record Counted (n : ℕ) (met met' : Met) : Type 0 where
-  is : met' ≡ record met { units = met.units + n }
-  few : met.units + n ≤ 16_777_216
+pub record Counted (n : ℕ) (met met' : Met) : Type 0 where
+  pub is : met' ≡ record met { units = met.units + n }
+  pub few : met.units + n ≤ 16_777_216
 
-counted-holds : (left n : ℕ) (met : Met) → Holds (Counted n met) (met_words.with_units left n met)
+pub counted-holds : (left n : ℕ) (met : Met) → Holds (Counted n met) (met_words.with_units left n met)
 counted-holds left n met = holds-if _ (ltb 16_777_216 (met.units + n)) _ _ (λ e. tt) (λ e. record { is = refl; few = ltb-false 16_777_216 (met.units + n) e })
 
-text-walks : (text : List ℕ) (t : Tally) → is_text text ≡ true → t.units + length text ≤ 16_777_216 → with_text text t ≡ Some (record t { units = t.units + length text })
+pub text-walks : (text : List ℕ) (t : Tally) → is_text text ≡ true → t.units + length text ≤ 16_777_216 → with_text text t ≡ Some (record t { units = t.units + length text })
 text-walks text t is few = rw (is, le-leb (t.units + length text) 16_777_216 few) refl
 
 -- What stands in a node without items, with its units counted.
@@ -85,7 +85,7 @@ record BodyTold (ports : ℕ) (met : Met) (x : PNode × Met × List ℕ) : Type 
   fit : fits ports x.0 ≡ true
   walks : (visit : Item → Tally → Option Tally) (all : List PNode) (n : ℕ) → n < 100_000 → n ≡ length met.nodes → node_met visit all n x.0 (tally met) ≡ Some (record { nodes = n + 1; items = met.items; units = x.1.units })
 
-numbered-walks : (n : ℕ) (met : Met) → n < 100_000 → n ≡ length met.nodes → numbered n (tally met) ≡ Some (record { nodes = n + 1; items = met.items; units = met.units })
+pub numbered-walks : (n : ℕ) (met : Met) → n < 100_000 → n ≡ length met.nodes → numbered n (tally met) ≡ Some (record { nodes = n + 1; items = met.items; units = met.units })
 numbered-walks n met lt e = rw (← e) (rw (eq-eqb n n refl, lt-ltb n 100_000 lt) refl)
 
 port-told : (ports : ℕ) (met : Met) (left : ℕ) (bytes : List ℕ) → AreBytes bytes → met.ports ≡ ports → Holds (BodyTold ports met) (port_at met left bytes)
