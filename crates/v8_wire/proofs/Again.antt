@@ -27,21 +27,21 @@ only_if-is false t t' e = absurd cc
 
 pub with_item-is : (t t' : Tally) → with_item t ≡ Some t' → (t.items < 1_000_000) × (t' ≡ record t { items = t.items + 1 })
 with_item-is t t' e = elim (cases_lt t.items 1_000_000) [
-    | inl lt ↦ (lt, let f = rw (lt-ltb t.items 1_000_000 lt) at e in cc)
-    | inr le ↦ absurd (let f = rw (le-ltb t.items 1_000_000 le) at e in cc)
-  ]
+  | inl lt ↦ (lt, let f = rw (lt-ltb t.items 1_000_000 lt) at e in cc)
+  | inr le ↦ absurd (let f = rw (le-ltb t.items 1_000_000 le) at e in cc)
+]
 
 pub with_node-is : (t t' : Tally) → with_node t ≡ Some t' → (t.nodes < 100_000) × (t' ≡ record t { nodes = t.nodes + 1 })
 with_node-is t t' e = elim (cases_lt t.nodes 100_000) [
-    | inl lt ↦ (lt, let f = rw (lt-ltb t.nodes 100_000 lt) at e in cc)
-    | inr le ↦ absurd (let f = rw (le-ltb t.nodes 100_000 le) at e in cc)
-  ]
+  | inl lt ↦ (lt, let f = rw (lt-ltb t.nodes 100_000 lt) at e in cc)
+  | inr le ↦ absurd (let f = rw (le-ltb t.nodes 100_000 le) at e in cc)
+]
 
 pub with_units-is : (more : ℕ) (t t' : Tally) → with_units more t ≡ Some t' → (t.units + more ≤ 16_777_216) × (t' ≡ record t { units = t.units + more })
 with_units-is more t t' e = elim (leb_tells (t.units + more) 16_777_216) [
-    | inl h ↦ (h.1, let f = rw h.0 at e in cc)
-    | inr h ↦ absurd (let f = rw h.0 at e in cc)
-  ]
+  | inl h ↦ (h.1, let f = rw h.0 at e in cc)
+  | inr h ↦ absurd (let f = rw h.0 at e in cc)
+]
 
 pub numbered-is : (number : ℕ) (t t' : Tally) → numbered number t ≡ Some t' → (number ≡ t.nodes) × (t.nodes < 100_000) × (t' ≡ record t { nodes = t.nodes + 1 })
 numbered-is number t t' e =

@@ -62,8 +62,8 @@ groups-hold left zero (b ∷ bytes) h = holds-if _ (ltb b 16) _ _ (λ e. (ltb-tr
 groups-hold left (suc more) (b ∷ bytes) h =
     let p = and_true (ltb b 256) (list_all (λ b. ltb b 256) bytes) h in
     holds-if _ (ltb b 128) _ _ (λ e. (omega (arith, ltb-true b 128 e, bound-least more), p.1))
-      (λ e. holds-bind (λ x. (x.0 < bound more) × AreBytes x.1) _ (groups_at left more bytes) _ (groups-hold left more bytes p.1)
-        (λ x q. (omega (arith, ltb-true b 256 p.0, q.0), q.1)))
+    (λ e. holds-bind (λ x. (x.0 < bound more) × AreBytes x.1) _ (groups_at left more bytes) _ (groups-hold left more bytes p.1)
+    (λ x q. (omega (arith, ltb-true b 256 p.0, q.0), q.1)))
 
 pub varint-holds : (bytes : List ℕ) → AreBytes bytes → Holds (λ x. (x.0 < 2 ^ 32) × AreBytes x.1) (varint_at bytes)
 unfolding varint_at bound
@@ -88,10 +88,10 @@ magnitude-small : (word : ℕ) → Small (magnitude_of word)
 unfolding magnitude_of
 magnitude-small word =
     small-if (eqb word 0) _ _ (λ e. omega arith) (λ e.
-      small-if (ltb (word / 2 ^ 52) 1023 || ltb 1075 (word / 2 ^ 52)) _ _ (λ f. tt) (λ f.
-        small-if (eqb ((word % 2 ^ 52 + 2 ^ 52) % 2 ^ (1075 - word / 2 ^ 52)) 0) _ _
-          (λ g. let q = div-le_self (word % 2 ^ 52 + 2 ^ 52) (2 ^ (1075 - word / 2 ^ 52)) in omega (arith, q))
-          (λ g. tt)))
+    small-if (ltb (word / 2 ^ 52) 1023 || ltb 1075 (word / 2 ^ 52)) _ _ (λ f. tt) (λ f.
+    small-if (eqb ((word % 2 ^ 52 + 2 ^ 52) % 2 ^ (1075 - word / 2 ^ 52)) 0) _ _
+    (λ g. let q = div-le_self (word % 2 ^ 52 + 2 ^ 52) (2 ^ (1075 - word / 2 ^ 52)) in omega (arith, q))
+    (λ g. tt)))
 
 abbrev Safe : Option ℤ → Type 0
 Safe None = Unit {0}
@@ -118,11 +118,11 @@ pub number-holds : (tag left : ℕ) (bytes : List ℕ) → AreBytes bytes → Ho
 unfolding number_at double_at
 number-holds tag left bytes h =
     holds-if _ (eqb tag 73) _ _
-      (λ e. holds-bind (λ x. (x.0 < 2 ^ 32) × AreBytes x.1) _ (varint_at bytes) _ (varint-holds bytes h) (λ x q. (unzigzag-safe x.0 q.0, q.1)))
-      (λ e. holds-if _ (eqb tag 85) _ _
-        (λ f. holds-bind (λ x. (x.0 < 2 ^ 32) × AreBytes x.1) _ (varint_at bytes) _ (varint-holds bytes h) (λ x q. (le-leb x.0 9_007_199_254_740_991 (omega (arith, q.0)), q.1)))
-        (λ f. holds-if _ (ltb (length bytes) 8) _ _ (λ g. tt)
-          (λ g. told-holds left (drop 8 bytes) (whole_of (from_le_bytes w64 (take 8 bytes))) (whole-safe (from_le_bytes w64 (take 8 bytes))) (bytes-drop 8 bytes h))))
+    (λ e. holds-bind (λ x. (x.0 < 2 ^ 32) × AreBytes x.1) _ (varint_at bytes) _ (varint-holds bytes h) (λ x q. (unzigzag-safe x.0 q.0, q.1)))
+    (λ e. holds-if _ (eqb tag 85) _ _
+    (λ f. holds-bind (λ x. (x.0 < 2 ^ 32) × AreBytes x.1) _ (varint_at bytes) _ (varint-holds bytes h) (λ x q. (le-leb x.0 9_007_199_254_740_991 (omega (arith, q.0)), q.1)))
+    (λ f. holds-if _ (ltb (length bytes) 8) _ _ (λ g. tt)
+    (λ g. told-holds left (drop 8 bytes) (whole_of (from_le_bytes w64 (take 8 bytes))) (whole-safe (from_le_bytes w64 (take 8 bytes))) (bytes-drop 8 bytes h))))
 
 -- ---- strings
 
@@ -147,9 +147,9 @@ all-append (x ∷ xs) ys h k = let p = and_true (ltb x 65_536) (list_all (λ uni
 
 units-from_char : (c : ℕ) → c < 1_114_112 → list_all (λ unit. ltb unit 65_536) (encode_utf16 c) ≡ true
 units-from_char c lt = elim (cases_lt c 65_536) [
-    | inl small ↦ rw (lt-ltb c 65_536 small, lt-ltb c 65_536 small) refl
-    | inr large ↦ rw (le-ltb c 65_536 large, lt-ltb (55_296 + (c - 65_536) / 1_024) 65_536 (omega arith), lt-ltb (56_320 + (c - 65_536) % 1_024) 65_536 (omega arith)) refl
-  ]
+  | inl small ↦ rw (lt-ltb c 65_536 small, lt-ltb c 65_536 small) refl
+  | inr large ↦ rw (le-ltb c 65_536 large, lt-ltb (55_296 + (c - 65_536) / 1_024) 65_536 (omega arith), lt-ltb (56_320 + (c - 65_536) % 1_024) 65_536 (omega arith)) refl
+]
 
 units-from_scalars : (cs : List ℕ) → scalars cs ≡ true → list_all (λ unit. ltb unit 65_536) (flat_map encode_utf16 cs) ≡ true
 units-from_scalars [] h = refl
@@ -163,12 +163,12 @@ text-is text le all = rw (le-leb (length text) 1_048_576 le, all) refl
 pub bytes_at-holds : (count : ℕ) (bytes : List ℕ) → AreBytes bytes → Holds (λ x. (length x.0 ≡ count) × AreBytes x.0 × AreBytes x.1) (bytes_at count bytes)
 bytes_at-holds count bytes h =
     holds-if _ (ltb (length bytes) count) _ _ (λ e. tt)
-      (λ e. (omega (arith, length-take count bytes, ltb-false (length bytes) count e), bytes-take count bytes h, bytes-drop count bytes h))
+    (λ e. (omega (arith, length-take count bytes, ltb-false (length bytes) count e), bytes-take count bytes h, bytes-drop count bytes h))
 
 holds-ok-text : (count : ℕ) (bytes : List ℕ) → count ≤ 1_048_576 → AreBytes bytes → Holds (λ x. (is_text x.0 ≡ true) × AreBytes x.1) (bytes_at count bytes)
 holds-ok-text count bytes le h =
     holds-if _ (ltb (length bytes) count) _ _ (λ e. tt)
-      (λ e. (text-is (take count bytes) (omega (arith, length-take count bytes)) (units-from_bytes (take count bytes) (bytes-take count bytes h)), bytes-drop count bytes h))
+    (λ e. (text-is (take count bytes) (omega (arith, length-take count bytes)) (units-from_bytes (take count bytes) (bytes-take count bytes h)), bytes-drop count bytes h))
 
 units-from_utf8 : (bytes : List ℕ) → is_utf8 bytes ≡ true → list_all (λ unit. ltb unit 65_536) (units_of bytes) ≡ true
 unfolding units_of
@@ -179,16 +179,16 @@ unfolding string_at narrow_at wide_at utf8_at decoded
 string-holds tag left bytes h =
     let number : Holds (λ x. (x.0 < 2 ^ 32) × AreBytes x.1) (varint_at bytes) = varint-holds bytes h in
     holds-if _ (eqb tag 34) _ _
-      (λ e. holds-bind (λ x. (x.0 < 2 ^ 32) × AreBytes x.1) _ (varint_at bytes) _ number (λ n q.
-        holds-if _ (ltb 1_048_576 n.0) _ _ (λ f. tt) (λ f. holds-ok-text n.0 n.1 (ltb-false 1_048_576 n.0 f) q.1)))
-      (λ e. holds-if _ (eqb tag 99) _ _
-        (λ f. holds-bind (λ x. (x.0 < 2 ^ 32) × AreBytes x.1) _ (varint_at bytes) _ number (λ n q.
-          holds-if _ (eqb (n.0 % 2) 1) _ _ (λ g. tt) (λ g. holds-if _ (ltb 1_048_576 (n.0 / 2)) _ _ (λ k. tt) (λ k.
-            holds-bind (λ x. (length x.0 ≡ n.0) × AreBytes x.0 × AreBytes x.1) _ (bytes_at n.0 n.1) _ (bytes_at-holds n.0 n.1 q.1)
-              (λ x r. (text-is (pairs x.0) (omega (arith, length-pairs x.0, r.0, ltb-false 1_048_576 (n.0 / 2) k)) (units-from_pairs x.0 r.1), r.2))))))
-        (λ f. holds-bind (λ x. (x.0 < 2 ^ 32) × AreBytes x.1) _ (varint_at bytes) _ number (λ n q.
-          holds-bind (λ x. (length x.0 ≡ n.0) × AreBytes x.0 × AreBytes x.1) _ (bytes_at n.0 n.1) _ (bytes_at-holds n.0 n.1 q.1) (λ x r.
-            holds-bind (λ units. is_text units ≡ true) _ _ _
-              (holds-if _ (is_utf8 x.0) _ _ (λ g. holds-if _ (ltb 1_048_576 (length (units_of x.0))) _ _ (λ k. tt)
-                (λ k. text-is (units_of x.0) (ltb-false 1_048_576 (length (units_of x.0)) k) (units-from_utf8 x.0 g))) (λ g. tt))
-              (λ units u. (u, r.2))))))
+    (λ e. holds-bind (λ x. (x.0 < 2 ^ 32) × AreBytes x.1) _ (varint_at bytes) _ number (λ n q.
+    holds-if _ (ltb 1_048_576 n.0) _ _ (λ f. tt) (λ f. holds-ok-text n.0 n.1 (ltb-false 1_048_576 n.0 f) q.1)))
+    (λ e. holds-if _ (eqb tag 99) _ _
+    (λ f. holds-bind (λ x. (x.0 < 2 ^ 32) × AreBytes x.1) _ (varint_at bytes) _ number (λ n q.
+    holds-if _ (eqb (n.0 % 2) 1) _ _ (λ g. tt) (λ g. holds-if _ (ltb 1_048_576 (n.0 / 2)) _ _ (λ k. tt) (λ k.
+    holds-bind (λ x. (length x.0 ≡ n.0) × AreBytes x.0 × AreBytes x.1) _ (bytes_at n.0 n.1) _ (bytes_at-holds n.0 n.1 q.1)
+    (λ x r. (text-is (pairs x.0) (omega (arith, length-pairs x.0, r.0, ltb-false 1_048_576 (n.0 / 2) k)) (units-from_pairs x.0 r.1), r.2))))))
+    (λ f. holds-bind (λ x. (x.0 < 2 ^ 32) × AreBytes x.1) _ (varint_at bytes) _ number (λ n q.
+    holds-bind (λ x. (length x.0 ≡ n.0) × AreBytes x.0 × AreBytes x.1) _ (bytes_at n.0 n.1) _ (bytes_at-holds n.0 n.1 q.1) (λ x r.
+    holds-bind (λ units. is_text units ≡ true) _ _ _
+    (holds-if _ (is_utf8 x.0) _ _ (λ g. holds-if _ (ltb 1_048_576 (length (units_of x.0))) _ _ (λ k. tt)
+    (λ k. text-is (units_of x.0) (ltb-false 1_048_576 (length (units_of x.0)) k) (units-from_utf8 x.0 g))) (λ g. tt))
+    (λ units u. (u, r.2))))))

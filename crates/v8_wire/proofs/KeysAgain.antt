@@ -61,7 +61,8 @@ index-again at text least n e le =
     let i = index-text text n e in
     let k = number-again (pos n) (le-leb n 9_007_199_254_740_991 (omega (arith, i.1))) in
     record {
-      tag = k.tag; body = k.body;
+      tag = k.tag;
+      body = k.body;
       starts = λ tail. rw (e, k.piece) (elim k.is_number as (λ _. unpadded (k.tag ∷ (k.body ++ tail)) ≡ k.tag ∷ (k.body ++ tail)) [ inl h ↦ rw h refl | inr h ↦ rw h refl ]);
       no_view = elim k.is_number as (λ _. eqb k.tag 86 ≡ false) [ inl h ↦ rw h refl | inr h ↦ rw h refl ];
       no_end = elim k.is_number as (λ _. eqb k.tag 123 ≡ false) [ inl h ↦ rw h refl | inr h ↦ rw h refl ];
@@ -81,7 +82,8 @@ unfolding key key_at may_be_index text_key
 name-again at text least e le =
     let s = string-again at text le in
     record {
-      tag = s.tag; body = s.body;
+      tag = s.tag;
+      body = s.body;
       starts = λ tail. rw e (s.starts tail);
       no_view = elim s.is_string as (λ _. eqb s.tag 86 ≡ false) [ inl h ↦ rw h refl | inr h ↦ rw h refl ];
       no_end = elim s.is_string as (λ _. eqb s.tag 123 ≡ false) [ inl h ↦ rw h refl | inr h ↦ rw h refl ];
@@ -175,27 +177,31 @@ module _ (ports : ℕ) (nodes : List PNode) (inner : ItemReader) (put : Item →
       let same_items : b.0.items ≡ t.items = ap (λ (y : Tally). y.items) u.1 in
       let v = again x.1 b.0 t' (with_bytes (key (length w.bytes) x.0) w) (with_counted (length x.0) met) plain.0 b.2 (n ∙ same_nodes) counted in
       let parts : keys (before ++ x ∷ xs) ≡ keys before ++ x.0 ∷ keys xs = map-append (λ property. property.0) before (x ∷ xs) in
-      let fresh : list_any (pointwise nat_eq x.0) (keys before) ≡ false = distinct-new (keys before) x.0 (keys xs) (subst (λ l. are_distinct l ≡ true) parts p.distinct) in
-      (record {
-        piece = key (length w.bytes) x.0 ++ v.piece; more = v.more; met' = v.met';
-        puts = v.puts ∙ ap (λ (bytes : List ℕ). written bytes t'.nodes) (append_assoc w.bytes (key (length w.bytes) x.0) v.piece);
-        reads = λ tail none.
-            let starts : unpadded ((key (length w.bytes) x.0 ++ v.piece) ++ tail) ≡ k.tag ∷ (k.body ++ (v.piece ++ tail)) = ap unpadded (append_assoc (key (length w.bytes) x.0) v.piece tail) ∙ k.starts (v.piece ++ tail) in
-            let left = length (k.tag ∷ (k.body ++ (v.piece ++ tail))) in
-            rw (starts, k.no_end, k.reads met left (v.piece ++ tail), fresh, counts left (length x.0) met t a.units_are u.0, v.reads tail none)
+      let fresh : list_any (pointwise nat_eq x.0) (keys before) ≡ false = distinct-new (keys before) x.0 (keys xs) (subst (λ l. are_distinct l ≡ true) parts p.distinct) in (
+        record {
+          piece = key (length w.bytes) x.0 ++ v.piece;
+          more = v.more;
+          met' = v.met';
+          puts = v.puts ∙ ap (λ (bytes : List ℕ). written bytes t'.nodes) (append_assoc w.bytes (key (length w.bytes) x.0) v.piece);
+          reads = λ tail none.
+              let starts : unpadded ((key (length w.bytes) x.0 ++ v.piece) ++ tail) ≡ k.tag ∷ (k.body ++ (v.piece ++ tail)) = ap unpadded (append_assoc (key (length w.bytes) x.0) v.piece tail) ∙ k.starts (v.piece ++ tail) in
+              let left = length (k.tag ∷ (k.body ++ (v.piece ++ tail))) in
+              rw (starts, k.no_end, k.reads met left (v.piece ++ tail), fresh, counts left (length x.0) met t a.units_are u.0, v.reads tail none)
               (ap (λ least. Ok (More (Object (before ++ x ∷ []) least), v.met', tail)) (sym (least_of-last before x)));
-        no_view = λ tail. subst NoView (sym (append_assoc (key (length w.bytes) x.0) v.piece tail))
-            (NoView-tag (key (length w.bytes) x.0 ++ (v.piece ++ tail)) k.tag (k.body ++ (v.piece ++ tail)) (k.starts (v.piece ++ tail)) k.no_view);
-        longer = λ tail. omega (arith, starts-longer (key (length w.bytes) x.0) k.tag k.body k.starts (v.piece ++ tail), starts-longer v.piece v.tag v.body v.starts tail, ap length (append_assoc (key (length w.bytes) x.0) v.piece tail));
-        nodes_are = v.nodes_are;
-        agrees = v.agrees;
-        taken = v.taken ∙ ap (λ m. take m nodes ++ v.more) (sym same_nodes);
-        grows = omega (arith, v.grows, same_items);
-      }, record {
-        in_order = rw (least_of-last before x) order.1;
-        distinct = subst (λ l. are_distinct (keys l) ≡ true) (sym (append_assoc before (x ∷ []) xs)) p.distinct;
-        plain = plain.1;
-      })
+          no_view = λ tail. subst NoView (sym (append_assoc (key (length w.bytes) x.0) v.piece tail))
+              (NoView-tag (key (length w.bytes) x.0 ++ (v.piece ++ tail)) k.tag (k.body ++ (v.piece ++ tail)) (k.starts (v.piece ++ tail)) k.no_view);
+          longer = λ tail. omega (arith, starts-longer (key (length w.bytes) x.0) k.tag k.body k.starts (v.piece ++ tail), starts-longer v.piece v.tag v.body v.starts tail, ap length (append_assoc (key (length w.bytes) x.0) v.piece tail));
+          nodes_are = v.nodes_are;
+          agrees = v.agrees;
+          taken = v.taken ∙ ap (λ m. take m nodes ++ v.more) (sym same_nodes);
+          grows = omega (arith, v.grows, same_items);
+        },
+        record {
+          in_order = rw (least_of-last before x) order.1;
+          distinct = subst (λ l. are_distinct (keys l) ≡ true) (sym (append_assoc before (x ∷ []) xs)) p.distinct;
+          plain = plain.1;
+        },
+      )
 
   pub object-end : (xs : List (List ℕ × Item)) (least : Option ℕ) (met : Met) (tail : List ℕ) → length xs < 2 ^ 32
       → turn_at inner (Object xs least) met ((123 ∷ varint (length xs)) ++ tail) ≡ Ok (End (kinds.Object xs), met, tail)

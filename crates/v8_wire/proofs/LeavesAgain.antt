@@ -72,9 +72,16 @@ uncounted-is met t e = ap (λ (u : ℕ). record met { units = u }) e
 
 pub counted-agrees : (ports : ℕ) (nodes : List PNode) (n : ℕ) (met : Met) (t : Tally) → Agrees ports nodes met t → Agrees ports nodes (with_counted n met) (record t { units = t.units + n })
 counted-agrees ports nodes n met t a = record {
-    ports_are = a.ports_are; flags_are = a.flags_are; count = a.count; few = a.few; items_are = a.items_are; items_few = a.items_few;
-    units_are = ap (λ u. u + n) a.units_are; sizes_are = a.sizes_are; small = a.small;
-  }
+  ports_are = a.ports_are;
+  flags_are = a.flags_are;
+  count = a.count;
+  few = a.few;
+  items_are = a.items_are;
+  items_few = a.items_few;
+  units_are = ap (λ u. u + n) a.units_are;
+  sizes_are = a.sizes_are;
+  small = a.small;
+}
 
 -- ---- tags of numbers and strings
 
@@ -123,13 +130,19 @@ module _ (ports : ℕ) (nodes : List PNode) (inner : ItemReader) (put : Item →
   single-again item tag t t' same n a puts starts front leaf reads =
       let e : t ≡ t' = cc in
       subst (λ (x : Tally). ValueAgain ports nodes inner put item t x w met) e (record {
-        piece = tag ∷ []; tag = tag; body = []; more = []; met' = met;
+        piece = tag ∷ [];
+        tag = tag;
+        body = [];
+        more = [];
+        met' = met;
         puts = puts ∙ ap (λ m. written (w.bytes ++ tag ∷ []) m) n;
-        starts = starts; front = front;
+        starts = starts;
+        front = front;
         reads = λ tail none. entered-leaf inner met tag tail item met tail leaf (reads (length (tag ∷ tail)) tail) none;
         nodes_are = sym (append-nil met.nodes);
         agrees = a;
-        taken = sym (append-nil (take t.nodes nodes)); keeps = omega arith;
+        taken = sym (append-nil (take t.nodes nodes));
+        keeps = omega arith;
       })
 
   pub undefined-again : (t t' : Tally) → Some t ≡ Some t' → w.nodes ≡ t.nodes → Agrees ports nodes met t
@@ -152,16 +165,21 @@ module _ (ports : ℕ) (nodes : List PNode) (inner : ItemReader) (put : Item →
       let o = only_if-is (is_safe z) t t' e in
       let k = number-again z o.0 in
       subst (λ (x : Tally). ValueAgain ports nodes inner put (items.Num z) t x w met) o.1 (record {
-        piece = number z; tag = k.tag; body = k.body; more = []; met' = met;
+        piece = number z;
+        tag = k.tag;
+        body = k.body;
+        more = [];
+        met' = met;
         puts = ap (λ m. written (w.bytes ++ number z) m) n;
         starts = λ tail. rw k.piece (number-starts k.tag (k.body ++ tail) k.is_number);
         front = number-front k.tag k.is_number;
         reads = λ tail none. entered-leaf inner met k.tag (k.body ++ tail) (items.Num z) met tail (number-leaf k.tag k.is_number)
             (leaf_at-number k.tag met (length (k.tag ∷ (k.body ++ tail))) (k.body ++ tail) k.is_number
-              ∙ ap (λ r. r >>= λ x. Ok (items.Num x.0, met, x.1)) (k.again (length (k.tag ∷ (k.body ++ tail))) tail)) none;
+            ∙ ap (λ r. r >>= λ x. Ok (items.Num x.0, met, x.1)) (k.again (length (k.tag ∷ (k.body ++ tail))) tail)) none;
         nodes_are = sym (append-nil met.nodes);
         agrees = a;
-        taken = sym (append-nil (take t.nodes nodes)); keeps = omega arith;
+        taken = sym (append-nil (take t.nodes nodes));
+        keeps = omega arith;
       })
 
   pub str-again : (text : List ℕ) (t t' : Tally) → with_text text t ≡ Some t' → w.nodes ≡ t.nodes → Agrees ports nodes met t → ValueAgain ports nodes inner put (items.Str text) t t' w met
@@ -173,16 +191,21 @@ module _ (ports : ℕ) (nodes : List PNode) (inner : ItemReader) (put : Item →
       let u = with_units-is (length text) t t' f in
       let s = string-again (length w.bytes) text (leb-true _ _ (and_true _ _ o.0).0) in
       subst (λ (x : Tally). ValueAgain ports nodes inner put (items.Str text) t x w met) (sym u.1) (record {
-        piece = string (length w.bytes) text; tag = s.tag; body = s.body; more = []; met' = with_counted (length text) met;
+        piece = string (length w.bytes) text;
+        tag = s.tag;
+        body = s.body;
+        more = [];
+        met' = with_counted (length text) met;
         puts = ap (λ m. written (w.bytes ++ string (length w.bytes) text) m) n;
         starts = s.starts;
         front = string-front s.tag s.is_string;
         reads = λ tail none. entered-leaf inner met s.tag (s.body ++ tail) (items.Str text) (with_counted (length text) met) tail (string-leaf s.tag s.is_string)
             (leaf_at-string s.tag met (length (s.tag ∷ (s.body ++ tail))) (s.body ++ tail) s.is_string
-              ∙ rw (s.again (length (s.tag ∷ (s.body ++ tail))) tail, counts (length (s.tag ∷ (s.body ++ tail))) (length text) met t a.units_are u.0) refl) none;
+            ∙ rw (s.again (length (s.tag ∷ (s.body ++ tail))) tail, counts (length (s.tag ∷ (s.body ++ tail))) (length text) met t a.units_are u.0) refl) none;
         nodes_are = sym (append-nil met.nodes);
         agrees = counted-agrees ports nodes (length text) met t a;
-        taken = sym (append-nil (take t.nodes nodes)); keeps = omega arith;
+        taken = sym (append-nil (take t.nodes nodes));
+        keeps = omega arith;
       })
 
 -- ---- nodes
@@ -197,22 +220,25 @@ pub node-agrees : (ports : ℕ) (nodes : List PNode) (met : Met) (t : Tally) (st
     → ((size : ℕ) → buffer_size (Some node) ≡ Some size → size ≤ 1_048_576)
     → Agrees ports nodes (record met { nodes = met.nodes ++ stands ∷ [] }) (record t { nodes = t.nodes + 1 })
 node-agrees ports nodes met t stands node a lt found same fits = record {
-    ports_are = a.ports_are; flags_are = a.flags_are;
-    count = omega (arith, length-append met.nodes (stands ∷ []), a.count);
-    few = omega arith;
-    items_are = a.items_are; items_few = a.items_few; units_are = a.units_are;
-    sizes_are = map-append (λ x. buffer_size (Some x)) met.nodes (stands ∷ [])
+  ports_are = a.ports_are;
+  flags_are = a.flags_are;
+  count = omega (arith, length-append met.nodes (stands ∷ []), a.count);
+  few = omega arith;
+  items_are = a.items_are;
+  items_few = a.items_few;
+  units_are = a.units_are;
+  sizes_are = map-append (λ x. buffer_size (Some x)) met.nodes (stands ∷ [])
       ∙ ap (λ (front : List (Option ℕ)). front ++ buffer_size (Some stands) ∷ []) a.sizes_are
       ∙ ap (λ (size : Option ℕ). sizes (take t.nodes nodes) ++ size ∷ []) same
       ∙ sym (map-append (λ x. buffer_size (Some x)) (take t.nodes nodes) (node ∷ []))
       ∙ ap sizes (sym (take-next nodes t.nodes node found));
-    small = λ i size lt e. elim (cases_lt i t.nodes) [
-        | inl below ↦ a.small i size below e
-        | inr above ↦
-            let last : i ≡ t.nodes = omega arith in
-            fits size (ap buffer_size (sym found) ∙ ap (λ (k : ℕ). buffer_size (slice_get nodes k)) (sym last) ∙ e)
-      ];
-  }
+  small = λ i size lt e. elim (cases_lt i t.nodes) [
+    | inl below ↦ a.small i size below e
+    | inr above ↦
+        let last : i ≡ t.nodes = omega arith in
+        fits size (ap buffer_size (sym found) ∙ ap (λ (k : ℕ). buffer_size (slice_get nodes k)) (sym last) ∙ e)
+  ];
+}
 
 pub not_full : (ports : ℕ) (nodes : List PNode) (met : Met) (t : Tally) → Agrees ports nodes met t → t.nodes < 100_000 → are_full met.nodes ≡ false
 not_full ports nodes met t a lt = lt-leb 100_000 (length met.nodes) (omega (arith, a.count))
@@ -233,7 +259,8 @@ unfolding put_contents node_at port_at
 port-body place t t' w met e lt a =
     let o = only_if-is (is_word place) t t' e in
     subst (λ (x : Tally). BodyAgain (kinds.Port place) t x w met) o.1 (record {
-      tag = 92; body = 77 ∷ varint place;
+      tag = 92;
+      body = 77 ∷ varint place;
       puts = λ put. refl;
       is_node = inr (inl refl);
       reads = λ left tail. rw (varint-again place tail (omega (arith, ltb-true _ _ o.0)), lt-ltb place met.ports lt)
@@ -252,11 +279,17 @@ buffer-body bytes t t' w met e a =
     let u = with_units-is (length bytes) t t' f in
     let short : length bytes ≤ 1_048_576 = leb-true _ _ (and_true _ _ o.0).0 in
     subst (λ (x : Tally). BodyAgain (kinds.Buffer bytes) t x w met) (sym u.1) (record {
-      tag = 66; body = varint (length bytes) ++ bytes;
+      tag = 66;
+      body = varint (length bytes) ++ bytes;
       puts = λ put. refl;
       is_node = inr (inr refl);
-      reads = λ left tail. rw (append_assoc (varint (length bytes)) bytes tail, varint-again (length bytes) (bytes ++ tail) (omega arith),
-          le-ltb 1_048_576 (length bytes) short, bytes-again (length bytes) bytes tail refl, counts left (length bytes) met t a u.0)
+      reads = λ left tail. rw (
+        append_assoc (varint (length bytes)) bytes tail,
+        varint-again (length bytes) (bytes ++ tail) (omega arith),
+        le-ltb 1_048_576 (length bytes) short,
+        bytes-again (length bytes) bytes tail refl,
+        counts left (length bytes) met t a u.0,
+      )
           (ap (λ (m : Met). Ok (kinds.Buffer bytes, m, tail)) (counted-is (length bytes) met t a));
       others = refl;
       fits = λ size h. let same : length bytes ≡ size = cc in omega arith;
@@ -294,7 +327,7 @@ error-some : (kind : ErrorKind) (met : Met) (bytes text tail : List ℕ) (left :
 unfolding error_at message_at stack_at end_at
 error-some kind met bytes text tail left met' e u =
     let parts : (kind_tag kind ++ (109 ∷ (bytes ++ 46 ∷ []))) ++ tail ≡ kind_tag kind ++ (109 ∷ (bytes ++ (46 ∷ tail))) =
-        append_assoc (kind_tag kind) (109 ∷ (bytes ++ 46 ∷ [])) tail ∙ ap (λ (x : List ℕ). kind_tag kind ++ (109 ∷ x)) (append_assoc bytes (46 ∷ []) tail) in
+    append_assoc (kind_tag kind) (109 ∷ (bytes ++ 46 ∷ [])) tail ∙ ap (λ (x : List ℕ). kind_tag kind ++ (109 ∷ x)) (append_assoc bytes (46 ∷ []) tail) in
     rw (parts, kind-again kind 109 (bytes ++ (46 ∷ tail)) (inl refl), e, u) refl
 
 pub error-body : (kind : ErrorKind) (text : Option (List ℕ)) (t t' : Tally) (w : Written) (met : Met) → with_message text t ≡ Some t'
@@ -303,7 +336,8 @@ unfolding put_contents node_at error
 error-body kind None t t' w met e a =
     let same : t ≡ t' = cc in
     subst (λ (x : Tally). BodyAgain (kinds.Error kind None) t x w met) same (record {
-      tag = 114; body = kind_tag kind ++ 46 ∷ [];
+      tag = 114;
+      body = kind_tag kind ++ 46 ∷ [];
       puts = λ put. ap (λ bytes. written bytes w.nodes) (append_assoc w.bytes (114 ∷ kind_tag kind) (46 ∷ []));
       is_node = inl refl;
       reads = λ left tail. error-none kind met tail ∙ ap (λ (m : Met). Ok (kinds.Error kind None, m, tail)) (uncounted-is met t a);
@@ -318,7 +352,8 @@ error-body kind (Some text) t t' w met e a =
     let at = length (w.bytes ++ (114 ∷ kind_tag kind)) + 1 in
     let regrouped : ((w.bytes ++ (114 ∷ kind_tag kind)) ++ 109 ∷ [] ++ string at text) ++ 46 ∷ [] ≡ w.bytes ++ (114 ∷ (kind_tag kind ++ (109 ∷ (string at text ++ 46 ∷ [])))) = simp append_assoc in
     subst (λ (x : Tally). BodyAgain (kinds.Error kind (Some text)) t x w met) (sym u.1) (record {
-      tag = 114; body = kind_tag kind ++ (109 ∷ (string at text ++ 46 ∷ []));
+      tag = 114;
+      body = kind_tag kind ++ (109 ∷ (string at text ++ 46 ∷ []));
       puts = λ put. ap (λ bytes. written bytes w.nodes) regrouped;
       is_node = inl refl;
       reads = λ left tail.

@@ -16,3 +16,4 @@ pub mod WholeAgain
 pub mod Holds
 pub mod Told
 pub mod NestedTold
+pub mod WholeTold

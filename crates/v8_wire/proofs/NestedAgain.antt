@@ -75,21 +75,29 @@ module _ (ports : ℕ) (nodes : List PNode) (inner : ItemReader) (put : Item →
   unfolding put_contents unpadded opened_at
   array-nest xs t t' w met plain e n a =
       let r = rest-again Item ports nodes inner (λ l. Array (length xs) l) visit put (IsArray ports nodes inner put visit again (length xs)) (array-one ports nodes inner put visit again (length xs))
-          xs [] t t' (with_bytes (65 ∷ varint (length xs)) w) met (omega arith, plain) e n a in
+      xs [] t t' (with_bytes (65 ∷ varint (length xs)) w) met (omega arith, plain) e n a in
       let small : length xs < 2 ^ 32 = omega (arith, r.grows, r.agrees.items_few) in
       record {
-        tag = 65; body = varint (length xs) ++ (r.piece ++ (36 ∷ 0 ∷ varint (length xs))); more = r.more; met' = r.met';
+        tag = 65;
+        body = varint (length xs) ++ (r.piece ++ (36 ∷ 0 ∷ varint (length xs)));
+        more = r.more;
+        met' = r.met';
         puts = ap (with_bytes (36 ∷ 0 ∷ varint (length xs))) r.puts
-          ∙ ap (λ (bytes : List ℕ). written bytes t'.nodes) (append_assoc (w.bytes ++ (65 ∷ varint (length xs))) r.piece (36 ∷ 0 ∷ varint (length xs))
+            ∙ ap (λ (bytes : List ℕ). written bytes t'.nodes) (append_assoc (w.bytes ++ (65 ∷ varint (length xs))) r.piece (36 ∷ 0 ∷ varint (length xs))
             ∙ append_assoc w.bytes (65 ∷ varint (length xs)) (r.piece ++ (36 ∷ 0 ∷ varint (length xs))));
         starts = λ tail. refl;
         front = record { no_view = refl; no_map_end = refl; no_set_end = refl; no_hole = refl };
         nests = refl;
-        reads = λ tail. rw (append_assoc (varint (length xs)) (r.piece ++ (36 ∷ 0 ∷ varint (length xs))) tail,
-            varint-again (length xs) ((r.piece ++ (36 ∷ 0 ∷ varint (length xs))) ++ tail) small)
-          (ends Item ports nodes inner (λ l. Array (length xs) l) put (IsArray ports nodes inner put visit again (length xs)) xs t t' (with_bytes (65 ∷ varint (length xs)) w) met r
+        reads = λ tail. rw (
+          append_assoc (varint (length xs)) (r.piece ++ (36 ∷ 0 ∷ varint (length xs))) tail,
+          varint-again (length xs) ((r.piece ++ (36 ∷ 0 ∷ varint (length xs))) ++ tail) small,
+        )
+            (ends Item ports nodes inner (λ l. Array (length xs) l) put (IsArray ports nodes inner put visit again (length xs)) xs t t' (with_bytes (65 ∷ varint (length xs)) w) met r
             36 (0 ∷ varint (length xs)) (kinds.Array xs) (λ tail. refl) refl (λ tail. array-end ports nodes inner put visit again (length xs) xs r.met' tail refl small) tail);
-        nodes_are = r.nodes_are; agrees = r.agrees; taken = r.taken; keeps = omega (arith, r.grows);
+        nodes_are = r.nodes_are;
+        agrees = r.agrees;
+        taken = r.taken;
+        keeps = omega (arith, r.grows);
       }
 
   set-nest : (xs : List Item) (t t' : Tally) (w : Written) (met : Met) → list_all is_plain_item xs ≡ true → in_turn visit xs t ≡ Some t' → w.nodes ≡ t.nodes → Agrees ports nodes met t
@@ -97,18 +105,24 @@ module _ (ports : ℕ) (nodes : List PNode) (inner : ItemReader) (put : Item →
   unfolding put_contents unpadded opened_at
   set-nest xs t t' w met plain e n a =
       let r = rest-again Item ports nodes inner (λ l. Set l) visit put (IsSet ports nodes inner put visit again) (set-one ports nodes inner put visit again)
-          xs [] t t' (with_bytes (39 ∷ []) w) met plain e n a in
+      xs [] t t' (with_bytes (39 ∷ []) w) met plain e n a in
       let small : length xs < 2 ^ 32 = omega (arith, r.grows, r.agrees.items_few) in
       record {
-        tag = 39; body = r.piece ++ (44 ∷ varint (length xs)); more = r.more; met' = r.met';
+        tag = 39;
+        body = r.piece ++ (44 ∷ varint (length xs));
+        more = r.more;
+        met' = r.met';
         puts = ap (with_bytes (44 ∷ varint (length xs))) r.puts
-          ∙ ap (λ (bytes : List ℕ). written bytes t'.nodes) (append_assoc (w.bytes ++ 39 ∷ []) r.piece (44 ∷ varint (length xs)) ∙ append_assoc w.bytes (39 ∷ []) (r.piece ++ (44 ∷ varint (length xs))));
+            ∙ ap (λ (bytes : List ℕ). written bytes t'.nodes) (append_assoc (w.bytes ++ 39 ∷ []) r.piece (44 ∷ varint (length xs)) ∙ append_assoc w.bytes (39 ∷ []) (r.piece ++ (44 ∷ varint (length xs))));
         starts = λ tail. refl;
         front = record { no_view = refl; no_map_end = refl; no_set_end = refl; no_hole = refl };
         nests = refl;
         reads = λ tail. ends Item ports nodes inner (λ l. Set l) put (IsSet ports nodes inner put visit again) xs t t' (with_bytes (39 ∷ []) w) met r
             44 (varint (length xs)) (kinds.Set xs) (λ tail. refl) refl (λ tail. set-end ports nodes inner put visit again xs r.met' tail small) tail;
-        nodes_are = r.nodes_are; agrees = r.agrees; taken = r.taken; keeps = omega (arith, r.grows);
+        nodes_are = r.nodes_are;
+        agrees = r.agrees;
+        taken = r.taken;
+        keeps = omega (arith, r.grows);
       }
 
   map-nest : (xs : List (Item × Item)) (t t' : Tally) (w : Written) (met : Met) → list_all (is_plain_entry ports nodes inner put visit again) xs ≡ true → in_turn (visit_entry visit) xs t ≡ Some t'
@@ -116,18 +130,24 @@ module _ (ports : ℕ) (nodes : List PNode) (inner : ItemReader) (put : Item →
   unfolding put_contents unpadded opened_at
   map-nest xs t t' w met plain e n a =
       let r = rest-again (Item × Item) ports nodes inner (λ l. Map l) (visit_entry visit) (put_entry put) (IsMap ports nodes inner put visit again) (map-one ports nodes inner put visit again)
-          xs [] t t' (with_bytes (59 ∷ []) w) met plain e n a in
+      xs [] t t' (with_bytes (59 ∷ []) w) met plain e n a in
       let small : 2 * length xs < 2 ^ 32 = omega (arith, r.grows, r.agrees.items_few) in
       record {
-        tag = 59; body = r.piece ++ (58 ∷ varint (2 * length xs)); more = r.more; met' = r.met';
+        tag = 59;
+        body = r.piece ++ (58 ∷ varint (2 * length xs));
+        more = r.more;
+        met' = r.met';
         puts = ap (with_bytes (58 ∷ varint (2 * length xs))) r.puts
-          ∙ ap (λ (bytes : List ℕ). written bytes t'.nodes) (append_assoc (w.bytes ++ 59 ∷ []) r.piece (58 ∷ varint (2 * length xs)) ∙ append_assoc w.bytes (59 ∷ []) (r.piece ++ (58 ∷ varint (2 * length xs))));
+            ∙ ap (λ (bytes : List ℕ). written bytes t'.nodes) (append_assoc (w.bytes ++ 59 ∷ []) r.piece (58 ∷ varint (2 * length xs)) ∙ append_assoc w.bytes (59 ∷ []) (r.piece ++ (58 ∷ varint (2 * length xs))));
         starts = λ tail. refl;
         front = record { no_view = refl; no_map_end = refl; no_set_end = refl; no_hole = refl };
         nests = refl;
         reads = λ tail. ends (Item × Item) ports nodes inner (λ l. Map l) (put_entry put) (IsMap ports nodes inner put visit again) xs t t' (with_bytes (59 ∷ []) w) met r
             58 (varint (2 * length xs)) (kinds.Map xs) (λ tail. refl) refl (λ tail. map-end ports nodes inner put visit again xs r.met' tail small) tail;
-        nodes_are = r.nodes_are; agrees = r.agrees; taken = r.taken; keeps = omega (arith, r.grows);
+        nodes_are = r.nodes_are;
+        agrees = r.agrees;
+        taken = r.taken;
+        keeps = omega (arith, r.grows);
       }
 
   object-nest : (xs : List (List ℕ × Item)) (t t' : Tally) (w : Written) (met : Met) → are_keys (keys xs) ≡ true → list_all (λ property. is_plain_item property.1) xs ≡ true
@@ -136,18 +156,24 @@ module _ (ports : ℕ) (nodes : List PNode) (inner : ItemReader) (put : Item →
   object-nest xs t t' w met in_order plain e n a =
       let order = and_true _ _ in_order in
       let r = rest-again (List ℕ × Item) ports nodes inner (λ l. Object l (least_of l)) (visit_property visit) (put_property put) IsObject (object-one ports nodes inner put visit again)
-          xs [] t t' (with_bytes (111 ∷ []) w) met (record { in_order = order.0; distinct = order.1; plain = plain }) e n a in
+      xs [] t t' (with_bytes (111 ∷ []) w) met (record { in_order = order.0; distinct = order.1; plain = plain }) e n a in
       let small : length xs < 2 ^ 32 = omega (arith, r.grows, r.agrees.items_few) in
       record {
-        tag = 111; body = r.piece ++ (123 ∷ varint (length xs)); more = r.more; met' = r.met';
+        tag = 111;
+        body = r.piece ++ (123 ∷ varint (length xs));
+        more = r.more;
+        met' = r.met';
         puts = ap (with_bytes (123 ∷ varint (length xs))) r.puts
-          ∙ ap (λ (bytes : List ℕ). written bytes t'.nodes) (append_assoc (w.bytes ++ 111 ∷ []) r.piece (123 ∷ varint (length xs)) ∙ append_assoc w.bytes (111 ∷ []) (r.piece ++ (123 ∷ varint (length xs))));
+            ∙ ap (λ (bytes : List ℕ). written bytes t'.nodes) (append_assoc (w.bytes ++ 111 ∷ []) r.piece (123 ∷ varint (length xs)) ∙ append_assoc w.bytes (111 ∷ []) (r.piece ++ (123 ∷ varint (length xs))));
         starts = λ tail. refl;
         front = record { no_view = refl; no_map_end = refl; no_set_end = refl; no_hole = refl };
         nests = refl;
         reads = λ tail. ends (List ℕ × Item) ports nodes inner (λ l. Object l (least_of l)) (put_property put) IsObject xs t t' (with_bytes (111 ∷ []) w) met r
             123 (varint (length xs)) (kinds.Object xs) (λ tail. refl) refl (λ tail. object-end ports nodes inner put visit again xs (least_of xs) r.met' tail small) tail;
-        nodes_are = r.nodes_are; agrees = r.agrees; taken = r.taken; keeps = omega (arith, r.grows);
+        nodes_are = r.nodes_are;
+        agrees = r.agrees;
+        taken = r.taken;
+        keeps = omega (arith, r.grows);
       }
 
 -- ---- a node with items as an item
@@ -164,13 +190,17 @@ placed-nodes front more stands node after e =
 nest-agrees : (ports : ℕ) (nodes : List PNode) (met' : Met) (t' : Tally) (front more after : List PNode) (node : PNode) → Agrees ports nodes met' t'
     → met'.nodes ≡ (front ++ kinds.Port 0 ∷ []) ++ more → after ≡ front ++ node ∷ more → buffer_size (Some node) ≡ None → Agrees ports nodes (record met' { nodes = after }) t'
 nest-agrees ports nodes met' t' front more after node a stood placed none = record {
-    ports_are = a.ports_are; flags_are = a.flags_are;
-    count = omega (arith, ap length stood, ap length placed, length-append (front ++ kinds.Port 0 ∷ []) more, length-append front (kinds.Port 0 ∷ []), length-append front (node ∷ more), a.count);
-    few = a.few; items_are = a.items_are; items_few = a.items_few; units_are = a.units_are;
-    sizes_are = ap sizes placed ∙ map-append (λ x. buffer_size (Some x)) front (node ∷ more) ∙ ap (λ (s : Option ℕ). sizes front ++ s ∷ sizes more) none
+  ports_are = a.ports_are;
+  flags_are = a.flags_are;
+  count = omega (arith, ap length stood, ap length placed, length-append (front ++ kinds.Port 0 ∷ []) more, length-append front (kinds.Port 0 ∷ []), length-append front (node ∷ more), a.count);
+  few = a.few;
+  items_are = a.items_are;
+  items_few = a.items_few;
+  units_are = a.units_are;
+  sizes_are = ap sizes placed ∙ map-append (λ x. buffer_size (Some x)) front (node ∷ more) ∙ ap (λ (s : Option ℕ). sizes front ++ s ∷ sizes more) none
       ∙ sym (map-append (λ x. buffer_size (Some x)) front (kinds.Port 0 ∷ more)) ∙ ap sizes (sym (stood ∙ append_assoc front (kinds.Port 0 ∷ []) more)) ∙ a.sizes_are;
-    small = a.small;
-  }
+  small = a.small;
+}
 
 nest-again : (ports : ℕ) (nodes : List PNode) (inner : ItemReader) (put : Item → Written → Written) (w : Written) (met : Met) (number : ℕ) (node : PNode) (t t' : Tally)
     → number ≡ t.nodes → t.nodes < 100_000 → slice_get nodes number ≡ Some node → w.nodes ≡ t.nodes → Agrees ports nodes met t → buffer_size (Some node) ≡ None
@@ -184,16 +214,20 @@ nest-again ports nodes inner put w met number node t t' e lt found n a none stan
     let placed = placed-nodes met.nodes k.more (kinds.Port 0) node k.met'.nodes k.nodes_are in
     let met' : Met = record k.met' { nodes = slice_set k.met'.nodes (length met.nodes) node } in
     record {
-      piece = k.tag ∷ k.body; tag = k.tag; body = k.body; more = node ∷ k.more; met' = met';
+      piece = k.tag ∷ k.body;
+      tag = k.tag;
+      body = k.body;
+      more = node ∷ k.more;
+      met' = met';
       puts = rw (le-ltb number w.nodes new, found) (stands ∙ k.puts);
       starts = k.starts;
       front = k.front;
       reads = λ tail _.
           rw (k.nests, not_full ports nodes met t a lt)
-            (bind-assoc (opened_at k.tag (k.body ++ tail)) (λ begun. contents_at inner (length begun.1) begun.0 (record met { nodes = met.nodes ++ kinds.Port 0 ∷ [] }) begun.1)
-              (λ x. Ok (items.Node (length met.nodes), record x.1 { nodes = slice_set x.1.nodes (length met.nodes) x.0 }, x.2))
-            ∙ ap (λ r. r >>= λ x. Ok (items.Node (length met.nodes), record x.1 { nodes = slice_set x.1.nodes (length met.nodes) x.0 }, x.2)) (k.reads tail)
-            ∙ ap (λ m. Ok (items.Node m, met', tail)) (a.count ∙ sym e));
+          (bind-assoc (opened_at k.tag (k.body ++ tail)) (λ begun. contents_at inner (length begun.1) begun.0 (record met { nodes = met.nodes ++ kinds.Port 0 ∷ [] }) begun.1)
+          (λ x. Ok (items.Node (length met.nodes), record x.1 { nodes = slice_set x.1.nodes (length met.nodes) x.0 }, x.2))
+          ∙ ap (λ r. r >>= λ x. Ok (items.Node (length met.nodes), record x.1 { nodes = slice_set x.1.nodes (length met.nodes) x.0 }, x.2)) (k.reads tail)
+          ∙ ap (λ m. Ok (items.Node m, met', tail)) (a.count ∙ sym e));
       nodes_are = placed;
       agrees = nest-agrees ports nodes k.met' t' met.nodes k.more (slice_set k.met'.nodes (length met.nodes) node) node k.agrees k.nodes_are placed none;
       taken = k.taken ∙ ap (λ xs. xs ++ k.more) (take-next nodes t.nodes node found_next) ∙ append_assoc (take t.nodes nodes) (node ∷ []) k.more;
@@ -245,11 +279,12 @@ module _ (ports : ℕ) (nodes : List PNode) (fit : AreFit ports nodes) (inner : 
       nested : (node : PNode) → slice_get nodes number ≡ Some node → slice_get nodes t.nodes ≡ Some node → put_node put nodes number (Some node) w ≡ put_contents put node (record w { nodes = number + 1 })
           → number ≡ t.nodes → t.nodes < 100_000 → buffer_size (Some node) ≡ None
           → (Agrees ports nodes (record met { nodes = met.nodes ++ kinds.Port 0 ∷ [] }) (record t { nodes = t.nodes + 1 })
-            → NestAgain ports nodes inner put node (record t { nodes = t.nodes + 1 }) t' (record w { nodes = number + 1 }) (record met { nodes = met.nodes ++ kinds.Port 0 ∷ [] }))
+          → NestAgain ports nodes inner put node (record t { nodes = t.nodes + 1 }) t' (record w { nodes = number + 1 }) (record met { nodes = met.nodes ++ kinds.Port 0 ∷ [] }))
           → ValueAgain ports nodes inner put (items.Node number) t t' w met
       nested node found found_next stands num lt none nest =
           nest-again ports nodes inner put w met number node t t' num lt found n a none stands
-            (nest (node-agrees ports nodes met t (kinds.Port 0) node a lt found_next (sym none) (λ size h. absurd (let g = sym none ∙ h in cc))))
+          (nest (node-agrees ports nodes met t (kinds.Port 0) node a lt found_next (sym none) (λ size h. absurd (let g = sym none ∙ h in cc))))
+
       by : (node : PNode) → is_view node ≡ false → slice_get nodes number ≡ Some node → slice_get nodes t.nodes ≡ Some node → contents_met visit node (record t { nodes = t.nodes + 1 }) ≡ Some t'
           → put_node put nodes number (Some node) w ≡ put_contents put node (record w { nodes = number + 1 }) → number ≡ t.nodes → t.nodes < 100_000
           → ValueAgain ports nodes inner put (items.Node number) t t' w met
@@ -258,25 +293,25 @@ module _ (ports : ℕ) (nodes : List PNode) (fit : AreFit ports nodes) (inner : 
           let o = only_if-is (are_keys (keys xs)) (record t { nodes = t.nodes + 1 }) b.0 b.1 in
           let g : in_turn (visit_property visit) xs (record t { nodes = t.nodes + 1 }) ≡ Some t' = subst (λ (m : Tally). in_turn (visit_property visit) xs m ≡ Some t') (sym o.1) b.2 in
           nested (kinds.Object xs) found found_next stands num lt refl (λ a1. object-nest ports nodes inner put visit again xs (record t { nodes = t.nodes + 1 }) t' (record w { nodes = number + 1 })
-            (record met { nodes = met.nodes ++ kinds.Port 0 ∷ [] }) o.0 (all-map is_plain_item (λ property. property.1) xs (fit.plain number (kinds.Object xs) found)) g (ap (λ m. m + 1) num) a1)
+          (record met { nodes = met.nodes ++ kinds.Port 0 ∷ [] }) o.0 (all-map is_plain_item (λ property. property.1) xs (fit.plain number (kinds.Object xs) found)) g (ap (λ m. m + 1) num) a1)
       by (kinds.Array xs) other found found_next f stands num lt =
           nested (kinds.Array xs) found found_next stands num lt refl (λ a1. array-nest ports nodes inner put visit again xs (record t { nodes = t.nodes + 1 }) t' (record w { nodes = number + 1 })
-            (record met { nodes = met.nodes ++ kinds.Port 0 ∷ [] }) (fit.plain number (kinds.Array xs) found) f (ap (λ m. m + 1) num) a1)
+          (record met { nodes = met.nodes ++ kinds.Port 0 ∷ [] }) (fit.plain number (kinds.Array xs) found) f (ap (λ m. m + 1) num) a1)
       by (kinds.Map xs) other found found_next f stands num lt =
           nested (kinds.Map xs) found found_next stands num lt refl (λ a1. map-nest ports nodes inner put visit again xs (record t { nodes = t.nodes + 1 }) t' (record w { nodes = number + 1 })
-            (record met { nodes = met.nodes ++ kinds.Port 0 ∷ [] }) (all-pairs xs (fit.plain number (kinds.Map xs) found)) f (ap (λ m. m + 1) num) a1)
+          (record met { nodes = met.nodes ++ kinds.Port 0 ∷ [] }) (all-pairs xs (fit.plain number (kinds.Map xs) found)) f (ap (λ m. m + 1) num) a1)
       by (kinds.Set xs) other found found_next f stands num lt =
           nested (kinds.Set xs) found found_next stands num lt refl (λ a1. set-nest ports nodes inner put visit again xs (record t { nodes = t.nodes + 1 }) t' (record w { nodes = number + 1 })
-            (record met { nodes = met.nodes ++ kinds.Port 0 ∷ [] }) (fit.plain number (kinds.Set xs) found) f (ap (λ m. m + 1) num) a1)
+          (record met { nodes = met.nodes ++ kinds.Port 0 ∷ [] }) (fit.plain number (kinds.Set xs) found) f (ap (λ m. m + 1) num) a1)
       by (kinds.Error kind text) other found found_next f stands num lt =
           first-again ports nodes inner put w met number (kinds.Error kind text) t t' num lt found n a stands
-            (error-body kind text (record t { nodes = t.nodes + 1 }) t' (record w { nodes = number + 1 }) met f a.units_are)
+          (error-body kind text (record t { nodes = t.nodes + 1 }) t' (record w { nodes = number + 1 }) met f a.units_are)
       by (kinds.Port place) other found found_next f stands num lt =
           first-again ports nodes inner put w met number (kinds.Port place) t t' num lt found n a stands
-            (port-body place (record t { nodes = t.nodes + 1 }) t' (record w { nodes = number + 1 }) met f (omega (arith, ltb-true _ _ (fit.came number (kinds.Port place) found), a.ports_are)) a.units_are)
+          (port-body place (record t { nodes = t.nodes + 1 }) t' (record w { nodes = number + 1 }) met f (omega (arith, ltb-true _ _ (fit.came number (kinds.Port place) found), a.ports_are)) a.units_are)
       by (kinds.Buffer bytes) other found found_next f stands num lt =
           first-again ports nodes inner put w met number (kinds.Buffer bytes) t t' num lt found n a stands
-            (buffer-body bytes (record t { nodes = t.nodes + 1 }) t' (record w { nodes = number + 1 }) met f a.units_are)
+          (buffer-body bytes (record t { nodes = t.nodes + 1 }) t' (record w { nodes = number + 1 }) met f a.units_are)
       by (kinds.View of offset size) other found found_next f stands num lt = absurd cc
 
   -- a node at its first visit
@@ -296,15 +331,15 @@ module _ (ports : ℕ) (nodes : List PNode) (fit : AreFit ports nodes) (inner : 
   node-again : (t t' : Tally) → (cond (ltb number t.nodes) (Some t) (checked.◌>>=◌ (slice_get nodes number) (λ node. node_met visit nodes number node t))) ≡ Some t'
       → w.nodes ≡ t.nodes → Agrees ports nodes met t → ValueAgain ports nodes inner put (items.Node number) t t' w met
   node-again t t' e n a = elim (cases_lt number t.nodes) [
-      | inl old ↦
-          let f = rw (lt-ltb number t.nodes old) at e in
-          let same : t ≡ t' = cc in
-          subst (λ (m : Tally). ValueAgain ports nodes inner put (items.Node number) t m w met) same (reference-again ports nodes inner put w met number t old n a)
-      | inr new ↦
-          let f = rw (le-ltb number t.nodes new) at e in
-          let b = some_bind (slice_get nodes number) (λ node. node_met visit nodes number node t) t' f in
-          first-visit b.0 t t' new b.1 b.2 n a
-    ]
+    | inl old ↦
+        let f = rw (lt-ltb number t.nodes old) at e in
+        let same : t ≡ t' = cc in
+        subst (λ (m : Tally). ValueAgain ports nodes inner put (items.Node number) t m w met) same (reference-again ports nodes inner put w met number t old n a)
+    | inr new ↦
+        let f = rw (le-ltb number t.nodes new) at e in
+        let b = some_bind (slice_get nodes number) (λ node. node_met visit nodes number node t) t' f in
+        first-visit b.0 t t' new b.1 b.2 n a
+  ]
 
 module _ (ports : ℕ) (nodes : List PNode) (fit : AreFit ports nodes) where
   value-again : (inner : ItemReader) (put : Item → Written → Written) (visit : Item → Tally → Option Tally) (again : InnerAgain ports nodes inner put visit) (item : Item) (t t' : Tally) (w : Written) (met : Met)
@@ -334,18 +369,34 @@ module _ (ports : ℕ) (nodes : List PNode) (fit : AreFit ports nodes) where
       let k = with_item-is t b.0 b.1 in
       let met1 : Met = record met { items = met.items + 1 } in
       let a1 : Agrees ports nodes met1 (record t { items = t.items + 1 }) = record {
-          ports_are = a.ports_are; flags_are = a.flags_are; count = a.count; few = a.few; items_are = ap (λ i. i + 1) a.items_are; items_few = omega arith;
-          units_are = a.units_are; sizes_are = a.sizes_are; small = a.small;
-        } in
+        ports_are = a.ports_are;
+        flags_are = a.flags_are;
+        count = a.count;
+        few = a.few;
+        items_are = ap (λ i. i + 1) a.items_are;
+        items_few = omega arith;
+        units_are = a.units_are;
+        sizes_are = a.sizes_are;
+        small = a.small;
+      } in
       let f : value_met (item_met depth nodes) nodes item (record t { items = t.items + 1 }) ≡ Some t' = subst (λ (m : Tally). value_met (item_met depth nodes) nodes item m ≡ Some t') k.1 b.2 in
       let v = value-again (item_at depth) (put_item depth nodes) (item_met depth nodes) (item-again depth) item (record t { items = t.items + 1 }) t' w met1 plain f n a1 in
       let room : leb 1_000_000 met.items ≡ false = lt-leb 1_000_000 met.items (omega (arith, a.items_are)) in
       record {
-        piece = v.piece; tag = v.tag; body = v.body; more = v.more; met' = v.met';
-        puts = v.puts; starts = v.starts; front = v.front;
+        piece = v.piece;
+        tag = v.tag;
+        body = v.body;
+        more = v.more;
+        met' = v.met';
+        puts = v.puts;
+        starts = v.starts;
+        front = v.front;
         reads = λ tail none. rw (room, v.starts tail) (v.reads tail none);
         reads_tag = λ tail none.
             let same : unpadded (v.tag ∷ (v.body ++ tail)) ≡ v.tag ∷ (v.body ++ tail) = ap unpadded (sym (v.starts tail)) ∙ unpadded-twice (v.piece ++ tail) ∙ v.starts tail in
             rw (room, same) (v.reads tail none);
-        nodes_are = v.nodes_are; agrees = v.agrees; taken = v.taken; grows = v.keeps;
+        nodes_are = v.nodes_are;
+        agrees = v.agrees;
+        taken = v.taken;
+        grows = v.keeps;
       }

@@ -61,11 +61,11 @@ InnerTold ports visit inner = (met : Met) (bytes : List ℕ) → AreBytes bytes 
 
 grew-more : (ports : ℕ) (a b c : Met) → Grew ports a b → Grew ports b c → Grew ports a c
 grew-more ports a b c x y = record {
-    more = x.more ++ y.more;
-    nodes_are = y.nodes_are ∙ ap (λ l. l ++ y.more) x.nodes_are ∙ append_assoc a.nodes x.more y.more;
-    ports_are = y.ports_are ∙ x.ports_are;
-    fit = fit-append ports x.more y.more x.fit y.fit;
-  }
+  more = x.more ++ y.more;
+  nodes_are = y.nodes_are ∙ ap (λ l. l ++ y.more) x.nodes_are ∙ append_assoc a.nodes x.more y.more;
+  ports_are = y.ports_are ∙ x.ports_are;
+  fit = fit-append ports x.more y.more x.fit y.fit;
+}
 
 -- What holds of all nodes from before the first step holds at each.
 pub record Steps (all : List PNode) (b c : Met) (from : ℕ) : Type 0 where
@@ -77,13 +77,13 @@ steps : (ports : ℕ) (all : List PNode) (a b c : Met) → Grew ports a b → Gr
 steps ports all a b c x y buffers continues =
     let longer : length b.nodes ≡ length a.nodes + length x.more = ap length x.nodes_are ∙ length-append a.nodes x.more in
     let front : Continues all (length a.nodes) b.nodes = λ i node le e.
-        continues i node le (ap (λ l. slice_get l i) y.nodes_are ∙ slice_get-front b.nodes y.more i (slice_get_within b.nodes i node e) ∙ e) in
+    continues i node le (ap (λ l. slice_get l i) y.nodes_are ∙ slice_get-front b.nodes y.more i (slice_get_within b.nodes i node e) ∙ e) in
     record {
       front = front;
       buffers = λ i bytes e. elim (cases_lt i (length a.nodes)) [
-          | inl old ↦ buffers i bytes (sym (ap (λ l. slice_get l i) x.nodes_are ∙ slice_get-front a.nodes x.more i old) ∙ e)
-          | inr new ↦ front i (kinds.Buffer bytes) new e
-        ];
+        | inl old ↦ buffers i bytes (sym (ap (λ l. slice_get l i) x.nodes_are ∙ slice_get-front a.nodes x.more i old) ∙ e)
+        | inr new ↦ front i (kinds.Buffer bytes) new e
+      ];
       back = λ i node le e. continues i node (omega arith) e;
     }
 
@@ -114,12 +114,12 @@ list-last : (A : Type 0) (ports : ℕ) (visit : List PNode → A → Tally → O
     → ((all : List PNode) → Buffers all met.nodes → Continues all (length met.nodes) met'.nodes → visit all x (tally met) ≡ Some (tally met'))
     → ListTold A ports visit plain start (xs ++ x ∷ []) met'
 list-last A ports visit plain start met met' xs x l g p walks = record {
-    grew = grew-more ports start met met' l.grew g;
-    are_plain = all-last plain xs x l.are_plain p;
-    walks = λ all buffers continues.
-        let s = steps ports all start met met' l.grew g buffers continues in
-        in_turn-last (visit all) xs x (tally start) (tally met) (tally met') (l.walks all buffers s.front) (walks all s.buffers s.back);
-  }
+  grew = grew-more ports start met met' l.grew g;
+  are_plain = all-last plain xs x l.are_plain p;
+  walks = λ all buffers continues.
+      let s = steps ports all start met met' l.grew g buffers continues in
+      in_turn-last (visit all) xs x (tally start) (tally met) (tally met') (l.walks all buffers s.front) (walks all s.buffers s.back);
+}
 
 -- A node with items that was read.
 pub record NestTold (ports : ℕ) (visit : List PNode → Item → Tally → Option Tally) (start : Met) (x : PNode × Met × List ℕ) : Type 0 where
@@ -128,7 +128,7 @@ pub record NestTold (ports : ℕ) (visit : List PNode → Item → Tally → Opt
   pub fit : fits ports x.0 ≡ true
   pub none : buffer_size (Some x.0) ≡ None
   pub walks : (all : List PNode) → Buffers all start.nodes → Continues all (length start.nodes) x.1.nodes
-    → (n : ℕ) (t : Tally) → numbered n t ≡ Some (tally start) → node_met (visit all) all n x.0 t ≡ Some (tally x.1)
+      → (n : ℕ) (t : Tally) → numbered n t ≡ Some (tally start) → node_met (visit all) all n x.0 t ≡ Some (tally x.1)
 
 -- What was read of a node with items.
 abbrev pub OpenTold : (ports : ℕ) (visit : List PNode → Item → Tally → Option Tally) (start : Met) → Open → Met → Type 0
@@ -167,7 +167,7 @@ module _ (ports : ℕ) (visit : List PNode → Item → Tally → Option Tally) 
       → Holds (TurnTold ports visit start) (inner met bytes >>= λ x. Ok (More (begun (xs ++ x.0 ∷ [])), x.1, x.2))
   element-told begun xs met bytes h p l is =
       holds-bind (ItemTold ports visit met) (TurnTold ports visit start) (inner met bytes) _ (told met bytes h p) (λ x i.
-        (i.bytes, i.grew.ports_are ∙ p, is (xs ++ x.0 ∷ []) x.1 (list-last Item ports visit is_plain_item start met x.1 xs x.0 l i.grew i.plain i.walks)))
+      (i.bytes, i.grew.ports_are ∙ p, is (xs ++ x.0 ∷ []) x.1 (list-last Item ports visit is_plain_item start met x.1 xs x.0 l i.grew i.plain i.walks)))
 
   pub array-told : (size : ℕ) (xs : List Item) (met : Met) (tag left : ℕ) (bytes : List ℕ) → AreBytes (tag ∷ bytes) → met.ports ≡ ports → ListTold Item ports visit is_plain_item start xs met
       → Holds (TurnTold ports visit start) (array_turn inner size xs met tag left bytes)
@@ -177,9 +177,9 @@ module _ (ports : ℕ) (visit : List PNode → Item → Tally → Option Tally) 
       holds-if _ (eqb tag 45) _ _ (λ e. tt) (λ e.
       holds-if _ (ltb (length xs) size) _ _ (λ f. element-told (λ l. Array size l) xs met (tag ∷ bytes) h p l (λ xs met l. l)) (λ f.
       holds-if _ (eqb tag 36) _ _
-        (λ g. holds-bind AreBytes _ (count_at 0 left bytes) _ (count-told 0 left bytes rest) (λ r q.
-          holds-bind AreBytes _ (count_at size left r) _ (count-told size left r q) (λ s k. array-ends xs met s k l)))
-        (λ g. refused-holds (TurnTold ports visit start) _ tag met left bytes)))
+      (λ g. holds-bind AreBytes _ (count_at 0 left bytes) _ (count-told 0 left bytes rest) (λ r q.
+      holds-bind AreBytes _ (count_at size left r) _ (count-told size left r q) (λ s k. array-ends xs met s k l)))
+      (λ g. refused-holds (TurnTold ports visit start) _ tag met left bytes)))
 
   pub sparse-told : (size : ℕ) (xs : List Item) (met : Met) (tag left : ℕ) (bytes : List ℕ) → AreBytes (tag ∷ bytes) → met.ports ≡ ports → ListTold Item ports visit is_plain_item start xs met
       → Holds (TurnTold ports visit start) (sparse_turn inner size xs met tag left bytes)
@@ -188,13 +188,13 @@ module _ (ports : ℕ) (visit : List PNode → Item → Tally → Option Tally) 
       let rest = (and_true (ltb tag 256) (list_all (λ b. ltb b 256) bytes) h).1 in
       holds-if _ (eqb tag 45) _ _ (λ e. tt) (λ e.
       holds-if _ (eqb tag 64) _ _
-        (λ f. holds-if _ (ltb (length xs) size) _ _ (λ g. tt)
-          (λ g. holds-bind AreBytes _ (count_at size left bytes) _ (count-told size left bytes rest) (λ r q.
-            holds-bind AreBytes _ (count_at size left r) _ (count-told size left r q) (λ s k. array-ends xs met s k l))))
-        (λ f. holds-if _ (may_be_next tag size xs) _ _
-          (λ g. holds-bind (λ x. (is_safe x.0 ≡ true) × AreBytes x.1) _ (number_at tag left bytes) _ (number-holds tag left bytes rest) (λ n q.
-            holds-if _ (is_index n.0 (length xs)) _ _ (λ k. element-told (λ l. Sparse size l) xs met n.1 q.1 p l (λ xs met l. l)) (λ k. tt)))
-          (λ g. refused-holds (TurnTold ports visit start) _ tag met left bytes)))
+      (λ f. holds-if _ (ltb (length xs) size) _ _ (λ g. tt)
+      (λ g. holds-bind AreBytes _ (count_at size left bytes) _ (count-told size left bytes rest) (λ r q.
+      holds-bind AreBytes _ (count_at size left r) _ (count-told size left r q) (λ s k. array-ends xs met s k l))))
+      (λ f. holds-if _ (may_be_next tag size xs) _ _
+      (λ g. holds-bind (λ x. (is_safe x.0 ≡ true) × AreBytes x.1) _ (number_at tag left bytes) _ (number-holds tag left bytes rest) (λ n q.
+      holds-if _ (is_index n.0 (length xs)) _ _ (λ k. element-told (λ l. Sparse size l) xs met n.1 q.1 p l (λ xs met l. l)) (λ k. tt)))
+      (λ g. refused-holds (TurnTold ports visit start) _ tag met left bytes)))
 
   pub set-told : (xs : List Item) (met : Met) (tag left : ℕ) (bytes : List ℕ) → AreBytes (tag ∷ bytes) → met.ports ≡ ports → ListTold Item ports visit is_plain_item start xs met
       → Holds (TurnTold ports visit start) (set_turn inner xs met tag left bytes)
@@ -202,9 +202,9 @@ module _ (ports : ℕ) (visit : List PNode → Item → Tally → Option Tally) 
   set-told xs met tag left bytes h p l =
       let rest = (and_true (ltb tag 256) (list_all (λ b. ltb b 256) bytes) h).1 in
       holds-if _ (eqb tag 44) _ _
-        (λ e. holds-bind AreBytes _ (count_at (length xs) left bytes) _ (count-told (length xs) left bytes rest) (λ r q.
-          record { bytes = q; grew = l.grew; fit = rw l.are_plain refl; none = refl; walks = λ all buffers continues n t e. rw e (l.walks all buffers continues) }))
-        (λ e. element-told (λ l. Set l) xs met (tag ∷ bytes) h p l (λ xs met l. l))
+      (λ e. holds-bind AreBytes _ (count_at (length xs) left bytes) _ (count-told (length xs) left bytes rest) (λ r q.
+      record { bytes = q; grew = l.grew; fit = rw l.are_plain refl; none = refl; walks = λ all buffers continues n t e. rw e (l.walks all buffers continues) }))
+      (λ e. element-told (λ l. Set l) xs met (tag ∷ bytes) h p l (λ xs met l. l))
 
   pairs-plain : (xs : List (Item × Item)) → list_all (λ entry. is_plain_item entry.0 && is_plain_item entry.1) xs ≡ true → list_all is_plain_item (flat_map (λ entry. entry.0 ∷ entry.1 ∷ []) xs) ≡ true
   pairs-plain [] h = refl
@@ -219,16 +219,18 @@ module _ (ports : ℕ) (visit : List PNode → Item → Tally → Option Tally) 
   map-told xs met tag left bytes h p l =
       let rest = (and_true (ltb tag 256) (list_all (λ b. ltb b 256) bytes) h).1 in
       holds-if _ (eqb tag 58) _ _
-        (λ e. holds-bind AreBytes _ (count_at (2 * length xs) left bytes) _ (count-told (2 * length xs) left bytes rest) (λ r q.
-          record { bytes = q; grew = l.grew; fit = rw (pairs-plain xs l.are_plain) refl; none = refl; walks = λ all buffers continues n t e. rw e (l.walks all buffers continues) }))
-        (λ e. holds-bind (ItemTold ports visit met) _ (inner met (tag ∷ bytes)) _ (told met (tag ∷ bytes) h p) (λ k i.
-          holds-bind (ItemTold ports visit k.1) _ (inner k.1 k.2) _ (told k.1 k.2 i.bytes (i.grew.ports_are ∙ p)) (λ v j.
-            (j.bytes, j.grew.ports_are ∙ i.grew.ports_are ∙ p,
-             list-last (Item × Item) ports (λ all. visit_entry (visit all)) (λ entry. is_plain_item entry.0 && is_plain_item entry.1) start met v.1 xs (k.0, v.0) l
-               (grew-more ports met k.1 v.1 i.grew j.grew) (rw (i.plain, j.plain) refl)
-               (λ all buffers continues.
-                 let s = steps ports all met k.1 v.1 i.grew j.grew buffers continues in
-                 rw (i.walks all buffers s.front) (j.walks all s.buffers s.back))))))
+      (λ e. holds-bind AreBytes _ (count_at (2 * length xs) left bytes) _ (count-told (2 * length xs) left bytes rest) (λ r q.
+      record { bytes = q; grew = l.grew; fit = rw (pairs-plain xs l.are_plain) refl; none = refl; walks = λ all buffers continues n t e. rw e (l.walks all buffers continues) }))
+      (λ e. holds-bind (ItemTold ports visit met) _ (inner met (tag ∷ bytes)) _ (told met (tag ∷ bytes) h p) (λ k i.
+      holds-bind (ItemTold ports visit k.1) _ (inner k.1 k.2) _ (told k.1 k.2 i.bytes (i.grew.ports_are ∙ p)) (λ v j. (
+        j.bytes,
+        j.grew.ports_are ∙ i.grew.ports_are ∙ p,
+        list-last (Item × Item) ports (λ all. visit_entry (visit all)) (λ entry. is_plain_item entry.0 && is_plain_item entry.1) start met v.1 xs (k.0, v.0) l
+            (grew-more ports met k.1 v.1 i.grew j.grew) (rw (i.plain, j.plain) refl)
+            (λ all buffers continues.
+            let s = steps ports all met k.1 v.1 i.grew j.grew buffers continues in
+            rw (i.walks all buffers s.front) (j.walks all s.buffers s.back)),
+      ))))
 
 -- ---- array indices as keys
 
@@ -284,10 +286,10 @@ unfolding index_key
 index-told least left (negsuc n) = tt
 index-told least left (pos n) =
     holds-if _ (leb n 4_294_967_294 && may_come least (Some n)) _ _
-      (λ e. let q = and_true (leb n 4_294_967_294) (may_come least (Some n)) e in
-        let le : n ≤ 4_294_967_294 = leb-true n 4_294_967_294 q.0 in
-        (decimal-text n le, rw (decimal-index n le) q.1, rw (decimal-index n le, add-one) refl))
-      (λ e. tt)
+    (λ e. let q = and_true (leb n 4_294_967_294) (may_come least (Some n)) e in
+    let le : n ≤ 4_294_967_294 = leb-true n 4_294_967_294 q.0 in
+    (decimal-text n le, rw (decimal-index n le) q.1, rw (decimal-index n le, add-one) refl))
+    (λ e. tt)
 
 name-told : (least : Option ℕ) (left : ℕ) (text : List ℕ) → is_text text ≡ true → Holds (λ x. (is_text x.0 ≡ true) × (may_come least (index_of x.0) ≡ true) × (x.1 ≡ index_after (index_of x.0))) (text_key left text)
 unfolding text_key
@@ -301,14 +303,14 @@ key-told : (least : Option ℕ) (tag : ℕ) (met : Met) (left : ℕ) (bytes : Li
 unfolding key_at
 key-told least tag met left bytes h =
     holds-if _ (may_be_index tag least) _ _
-      (λ e. holds-bind (λ x. (is_safe x.0 ≡ true) × AreBytes x.1) _ (number_at tag left bytes) _ (number-holds tag left bytes h) (λ n q.
-        holds-bind (λ x. (is_text x.0 ≡ true) × (may_come least (index_of x.0) ≡ true) × (x.1 ≡ index_after (index_of x.0))) _ (index_key least left n.0) _ (index-told least left n.0) (λ k r.
-          record { bytes = q.1; is = r.0; may = r.1; next = r.2 })))
-      (λ e. holds-if _ (is_text_tag tag) _ _
-        (λ f. holds-bind (λ x. (is_text x.0 ≡ true) × AreBytes x.1) _ (string_at tag left bytes) _ (string-holds tag left bytes h) (λ s q.
-          holds-bind (λ x. (is_text x.0 ≡ true) × (may_come least (index_of x.0) ≡ true) × (x.1 ≡ index_after (index_of x.0))) _ (text_key left s.0) _ (name-told least left s.0 q.0) (λ k r.
-            record { bytes = q.1; is = r.0; may = r.1; next = r.2 })))
-        (λ f. refused-holds (KeyTold least) _ tag met left bytes))
+    (λ e. holds-bind (λ x. (is_safe x.0 ≡ true) × AreBytes x.1) _ (number_at tag left bytes) _ (number-holds tag left bytes h) (λ n q.
+    holds-bind (λ x. (is_text x.0 ≡ true) × (may_come least (index_of x.0) ≡ true) × (x.1 ≡ index_after (index_of x.0))) _ (index_key least left n.0) _ (index-told least left n.0) (λ k r.
+    record { bytes = q.1; is = r.0; may = r.1; next = r.2 })))
+    (λ e. holds-if _ (is_text_tag tag) _ _
+    (λ f. holds-bind (λ x. (is_text x.0 ≡ true) × AreBytes x.1) _ (string_at tag left bytes) _ (string-holds tag left bytes h) (λ s q.
+    holds-bind (λ x. (is_text x.0 ≡ true) × (may_come least (index_of x.0) ≡ true) × (x.1 ≡ index_after (index_of x.0))) _ (text_key left s.0) _ (name-told least left s.0 q.0) (λ k r.
+    record { bytes = q.1; is = r.0; may = r.1; next = r.2 })))
+    (λ f. refused-holds (KeyTold least) _ tag met left bytes))
 
 pub record NewTold (xs : List (List ℕ × Item)) (met : Met) (text : List ℕ) (met' : Met) : Type 0 where
   pub counted : Counted (length text) met met'
@@ -322,8 +324,8 @@ new-told : (xs : List (List ℕ × Item)) (met : Met) (left : ℕ) (text : List 
 unfolding new_key
 new-told xs met left text =
     holds-if _ (is_new text xs) _ _
-      (λ e. by (met_words.with_units left (length text) met) (counted-holds left (length text) met) (not_true _ e))
-      (λ e. tt)
+    (λ e. by (met_words.with_units left (length text) met) (counted-holds left (length text) met) (not_true _ e))
+    (λ e. tt)
   where
     by : (r : Result Met Fault) → Holds (Counted (length text) met) r → list_any (pointwise nat_eq text) (map (λ property. property.0) xs) ≡ false → Holds (NewTold xs met text) r
     by (Ok m) c f = record { counted = c; fresh = f }
@@ -366,26 +368,30 @@ module _ (ports : ℕ) (visit : List PNode → Item → Tally → Option Tally) 
       let rest = (and_true (ltb tag 256) (list_all (λ b. ltb b 256) bytes) h).1 in
       let keys : List (List ℕ) = map (λ property. property.0) xs in
       holds-if _ (eqb tag 123) _ _
-        (λ e. holds-bind AreBytes _ (count_at (length xs) left bytes) _ (count-told (length xs) left bytes rest) (λ r q.
-          record { bytes = q; grew = l.0.grew; fit = rw (all-mapped xs l.0.are_plain) refl; none = refl; walks = λ all buffers continues n t e. rw (e, l.1) (l.0.walks all buffers continues) }))
-        (λ e. holds-bind (KeyTold least) _ (key_at least tag met left bytes) _ (key-told least tag met left bytes rest) (λ k q.
-          holds-bind (NewTold xs met k.0.0) _ (new_key xs met left k.0.0) _ (new-told xs met left k.0.0) (λ m c.
-            let same_nodes : m.nodes ≡ met.nodes = ap (λ (x : Met). x.nodes) c.counted.is in
-            let same_ports : m.ports ≡ met.ports = ap (λ (x : Met). x.ports) c.counted.is in
-            holds-bind (ItemTold ports visit m) _ (inner m k.1) _ (told m k.1 q.bytes (same_ports ∙ p)) (λ v i.
-              let first : Grew ports met m = grew-none ports met m same_nodes same_ports in
-              let parts : map (λ property. property.0) (xs ++ (k.0.0, v.0) ∷ []) ≡ keys ++ k.0.0 ∷ [] = map-append (λ property. property.0) xs ((k.0.0, v.0) ∷ []) in
-              let ordered : are_in_order (Some 0) (keys ++ k.0.0 ∷ []) ≡ true = l.2 k.0.0 q.may in
-              let distinct : are_distinct (keys ++ k.0.0 ∷ []) ≡ true = distinct-last keys k.0.0 (and_true (are_in_order (Some 0) keys) (are_distinct keys) l.1).1 c.fresh in
-              (i.bytes, i.grew.ports_are ∙ same_ports ∙ p,
-               (list-last (List ℕ × Item) ports (λ all. visit_property (visit all)) (λ property. is_plain_item property.1) start met v.1 xs (k.0.0, v.0) l.0
-                 (grew-more ports met m v.1 first i.grew) i.plain
-                 (λ all buffers continues.
-                   let s = steps ports all met m v.1 first i.grew buffers continues in
-                   let counted : tally m ≡ record (tally met) { units = met.units + length k.0.0 } = ap tally c.counted.is in
-                   rw (text-walks k.0.0 (tally met) q.is c.counted.few) (ap (visit all v.0) (sym counted) ∙ i.walks all s.buffers s.back)),
-                rw (parts, ordered, distinct) refl,
-                λ next may. rw parts (order-last (Some 0) keys k.0.0 next ordered (subst (λ o. may_come o (index_of next) ≡ true) q.next may))))))))
+      (λ e. holds-bind AreBytes _ (count_at (length xs) left bytes) _ (count-told (length xs) left bytes rest) (λ r q.
+      record { bytes = q; grew = l.0.grew; fit = rw (all-mapped xs l.0.are_plain) refl; none = refl; walks = λ all buffers continues n t e. rw (e, l.1) (l.0.walks all buffers continues) }))
+      (λ e. holds-bind (KeyTold least) _ (key_at least tag met left bytes) _ (key-told least tag met left bytes rest) (λ k q.
+      holds-bind (NewTold xs met k.0.0) _ (new_key xs met left k.0.0) _ (new-told xs met left k.0.0) (λ m c.
+      let same_nodes : m.nodes ≡ met.nodes = ap (λ (x : Met). x.nodes) c.counted.is in
+      let same_ports : m.ports ≡ met.ports = ap (λ (x : Met). x.ports) c.counted.is in
+      holds-bind (ItemTold ports visit m) _ (inner m k.1) _ (told m k.1 q.bytes (same_ports ∙ p)) (λ v i.
+      let first : Grew ports met m = grew-none ports met m same_nodes same_ports in
+      let parts : map (λ property. property.0) (xs ++ (k.0.0, v.0) ∷ []) ≡ keys ++ k.0.0 ∷ [] = map-append (λ property. property.0) xs ((k.0.0, v.0) ∷ []) in
+      let ordered : are_in_order (Some 0) (keys ++ k.0.0 ∷ []) ≡ true = l.2 k.0.0 q.may in
+      let distinct : are_distinct (keys ++ k.0.0 ∷ []) ≡ true = distinct-last keys k.0.0 (and_true (are_in_order (Some 0) keys) (are_distinct keys) l.1).1 c.fresh in (
+        i.bytes,
+        i.grew.ports_are ∙ same_ports ∙ p,
+        (
+          list-last (List ℕ × Item) ports (λ all. visit_property (visit all)) (λ property. is_plain_item property.1) start met v.1 xs (k.0.0, v.0) l.0
+              (grew-more ports met m v.1 first i.grew) i.plain
+              (λ all buffers continues.
+              let s = steps ports all met m v.1 first i.grew buffers continues in
+              let counted : tally m ≡ record (tally met) { units = met.units + length k.0.0 } = ap tally c.counted.is in
+              rw (text-walks k.0.0 (tally met) q.is c.counted.few) (ap (visit all v.0) (sym counted) ∙ i.walks all s.buffers s.back)),
+          rw (parts, ordered, distinct) refl,
+          λ next may. rw parts (order-last (Some 0) keys k.0.0 next ordered (subst (λ o. may_come o (index_of next) ≡ true) q.next may)),
+        ),
+      )))))
     where
       all-mapped : (xs : List (List ℕ × Item)) → list_all (λ property. is_plain_item property.1) xs ≡ true → list_all is_plain_item (map (λ property. property.1) xs) ≡ true
       all-mapped [] h = refl
@@ -423,8 +429,8 @@ opened-told ports visit start tag bytes h =
     holds-if _ (eqb tag 59) _ _ (λ e. (h, record { grew = grew-none ports start start refl refl; are_plain = refl; walks = λ all b c. refl })) (λ e.
     holds-if _ (eqb tag 39) _ _ (λ e. (h, record { grew = grew-none ports start start refl refl; are_plain = refl; walks = λ all b c. refl })) (λ e.
     holds-if _ (eqb tag 65) _ _
-      (λ e. holds-bind (λ x. (x.0 < 2 ^ 32) × AreBytes x.1) _ (varint_at bytes) _ (varint-holds bytes h) (λ n q. (q.1, record { grew = grew-none ports start start refl refl; are_plain = refl; walks = λ all b c. refl })))
-      (λ e. holds-bind (λ x. (x.0 < 2 ^ 32) × AreBytes x.1) _ (varint_at bytes) _ (varint-holds bytes h) (λ n q. (q.1, record { grew = grew-none ports start start refl refl; are_plain = refl; walks = λ all b c. refl }))))))
+    (λ e. holds-bind (λ x. (x.0 < 2 ^ 32) × AreBytes x.1) _ (varint_at bytes) _ (varint-holds bytes h) (λ n q. (q.1, record { grew = grew-none ports start start refl refl; are_plain = refl; walks = λ all b c. refl })))
+    (λ e. holds-bind (λ x. (x.0 < 2 ^ 32) × AreBytes x.1) _ (varint_at bytes) _ (varint-holds bytes h) (λ n q. (q.1, record { grew = grew-none ports start start refl refl; are_plain = refl; walks = λ all b c. refl }))))))
 
 slice_get-past : (xs ys : List PNode) (a b : PNode) (i : ℕ) → length xs < i → slice_get (xs ++ a ∷ ys) i ≡ slice_get (xs ++ b ∷ ys) i
 slice_get-past [] ys a b zero lt = absurd (omega arith)
@@ -441,28 +447,28 @@ nest-made ports visit met node m bytes room k =
     let start : List PNode = met.nodes ++ kinds.Port 0 ∷ [] in
     let stood : m.nodes ≡ met.nodes ++ (kinds.Port 0 ∷ k.grew.more) = k.grew.nodes_are ∙ append_assoc met.nodes (kinds.Port 0 ∷ []) k.grew.more in
     let placed : slice_set m.nodes (length met.nodes) node ≡ met.nodes ++ node ∷ k.grew.more =
-      ap (λ xs. slice_set xs (length met.nodes) node) stood ∙ set-append_seam met.nodes (kinds.Port 0) k.grew.more node in
+    ap (λ xs. slice_set xs (length met.nodes) node) stood ∙ set-append_seam met.nodes (kinds.Port 0) k.grew.more node in
     let one : length start ≡ length met.nodes + 1 = length-append met.nodes (kinds.Port 0 ∷ []) in
     let same : length (slice_set m.nodes (length met.nodes) node) ≡ length m.nodes =
-      ap length placed ∙ length-append met.nodes (node ∷ k.grew.more) ∙ sym (length-append met.nodes (kinds.Port 0 ∷ k.grew.more)) ∙ sym (ap length stood) in
+    ap length placed ∙ length-append met.nodes (node ∷ k.grew.more) ∙ sym (length-append met.nodes (kinds.Port 0 ∷ k.grew.more)) ∙ sym (ap length stood) in
     record {
       bytes = k.bytes;
       grew = record { more = node ∷ k.grew.more; nodes_are = placed; ports_are = k.grew.ports_are; fit = rw (k.fit, k.grew.fit) refl };
       plain = refl;
       walks = λ all buffers continues.
-        let found : slice_get all (length met.nodes) ≡ Some node = continues (length met.nodes) node (omega arith) (ap (λ xs. slice_get xs (length met.nodes)) placed ∙ slice_get-seam met.nodes k.grew.more node) in
-        let new : ltb (length met.nodes) (length met.nodes) ≡ false = le-ltb (length met.nodes) (length met.nodes) (omega arith) in
-        let inner_buffers : Buffers all start = λ i b e. elim (cases_lt i (length met.nodes)) [
+          let found : slice_get all (length met.nodes) ≡ Some node = continues (length met.nodes) node (omega arith) (ap (λ xs. slice_get xs (length met.nodes)) placed ∙ slice_get-seam met.nodes k.grew.more node) in
+          let new : ltb (length met.nodes) (length met.nodes) ≡ false = le-ltb (length met.nodes) (length met.nodes) (omega arith) in
+          let inner_buffers : Buffers all start = λ i b e. elim (cases_lt i (length met.nodes)) [
             | inl old ↦ buffers i b (sym (slice_get-front met.nodes (kinds.Port 0 ∷ []) i old) ∙ e)
             | inr last ↦
                 let at : i ≡ length met.nodes = let within = slice_get_within start i (kinds.Buffer b) e in omega (arith, one) in
                 absurd (let g = sym (slice_get-seam met.nodes [] (kinds.Port 0)) ∙ ap (slice_get start) (sym at) ∙ e in cc)
           ] in
-        let inner_continues : Continues all (length start) m.nodes = λ i n le e.
-            continues i n (omega (arith, one)) (ap (λ xs. slice_get xs i) placed ∙ slice_get-past met.nodes k.grew.more node (kinds.Port 0) i (omega (arith, one)) ∙ sym (ap (λ xs. slice_get xs i) stood) ∙ e) in
-        let number : numbered (length met.nodes) (tally met) ≡ Some (record { nodes = length start; items = met.items; units = met.units }) =
-            numbered-walks (length met.nodes) met room refl ∙ ap (λ n. Some (record { nodes = n; items = met.items; units = met.units })) (sym one) in
-        rw (new, found) (k.walks all inner_buffers inner_continues (length met.nodes) (tally met) number ∙ ap (λ n. Some (record { nodes = n; items = m.items; units = m.units })) (sym same));
+          let inner_continues : Continues all (length start) m.nodes = λ i n le e.
+          continues i n (omega (arith, one)) (ap (λ xs. slice_get xs i) placed ∙ slice_get-past met.nodes k.grew.more node (kinds.Port 0) i (omega (arith, one)) ∙ sym (ap (λ xs. slice_get xs i) stood) ∙ e) in
+          let number : numbered (length met.nodes) (tally met) ≡ Some (record { nodes = length start; items = met.items; units = met.units }) =
+          numbered-walks (length met.nodes) met room refl ∙ ap (λ n. Some (record { nodes = n; items = met.items; units = met.units })) (sym one) in
+          rw (new, found) (k.walks all inner_buffers inner_continues (length met.nodes) (tally met) number ∙ ap (λ n. Some (record { nodes = n; items = m.items; units = m.units })) (sym same));
     }
 
 composite-told : (ports : ℕ) (visit : List PNode → Item → Tally → Option Tally) (inner : ItemReader) → InnerTold ports visit inner → (tag : ℕ) (met : Met) (left : ℕ) (bytes : List ℕ) → AreBytes bytes → met.ports ≡ ports
@@ -472,14 +478,16 @@ composite-told ports visit inner told tag met left bytes h p = by (are_full met.
   where
     start : Met
     start = record met { nodes = met.nodes ++ kinds.Port 0 ∷ [] }
+
     reads : length met.nodes < 100_000 → Holds (ValueTold ports visit met) (opened_at tag bytes >>= λ begun. contents_at inner (length begun.1) begun.0 (record met { nodes = met.nodes ++ kinds.Port 0 ∷ [] }) begun.1
         >>= λ x. Ok (items.Node (length met.nodes), record x.1 { nodes = slice_set x.1.nodes (length met.nodes) x.0 }, x.2))
     reads room =
         holds-bind (λ x. AreBytes x.1 × OpenTold ports visit (record met { nodes = met.nodes ++ kinds.Port 0 ∷ [] }) x.0 (record met { nodes = met.nodes ++ kinds.Port 0 ∷ [] })) _ (opened_at tag bytes) _
-          (opened-told ports visit (record met { nodes = met.nodes ++ kinds.Port 0 ∷ [] }) tag bytes h) (λ o q.
-            holds-bind (NestTold ports visit (record met { nodes = met.nodes ++ kinds.Port 0 ∷ [] })) _ (contents_at inner (length o.1) o.0 (record met { nodes = met.nodes ++ kinds.Port 0 ∷ [] }) o.1) _
-              (contents-told ports visit inner told (record met { nodes = met.nodes ++ kinds.Port 0 ∷ [] }) (length o.1) o.0 (record met { nodes = met.nodes ++ kinds.Port 0 ∷ [] }) o.1 q.0 p q.1)
-              (λ x k. nest-made ports visit met x.0 x.1 x.2 room k))
+        (opened-told ports visit (record met { nodes = met.nodes ++ kinds.Port 0 ∷ [] }) tag bytes h) (λ o q.
+        holds-bind (NestTold ports visit (record met { nodes = met.nodes ++ kinds.Port 0 ∷ [] })) _ (contents_at inner (length o.1) o.0 (record met { nodes = met.nodes ++ kinds.Port 0 ∷ [] }) o.1) _
+        (contents-told ports visit inner told (record met { nodes = met.nodes ++ kinds.Port 0 ∷ [] }) (length o.1) o.0 (record met { nodes = met.nodes ++ kinds.Port 0 ∷ [] }) o.1 q.0 p q.1)
+        (λ x k. nest-made ports visit met x.0 x.1 x.2 room k))
+
     by : (b : Bool) → are_full met.nodes ≡ b → Holds (ValueTold ports visit met) (met_words.with_node left (kinds.Port 0) met >>= λ n. opened_at tag bytes >>= λ begun.
         contents_at inner (length begun.1) begun.0 n.1 begun.1 >>= λ x. Ok (items.Node n.0, record x.1 { nodes = slice_set x.1.nodes n.0 x.0 }, x.2))
     by true e = rw e tt
@@ -499,23 +507,23 @@ entered-told ports visit inner told met [] h p = tt
 entered-told ports visit inner told met (tag ∷ bytes) h p =
     let rest = (and_true (ltb tag 256) (list_all (λ b. ltb b 256) bytes) h).1 in
     holds-if _ (is_composite_tag tag) _ _ (λ e. composite-told ports visit inner told tag met (length (tag ∷ bytes)) bytes rest p)
-      (λ e. holds-bind (ValueTold ports visit met) _ (leaf_at tag met (length (tag ∷ bytes)) bytes) _ (leaf-told ports visit tag met (length (tag ∷ bytes)) bytes rest p)
-        (λ x q. viewed-told ports visit met x.0 x.1 x.2 q))
+    (λ e. holds-bind (ValueTold ports visit met) _ (leaf_at tag met (length (tag ∷ bytes)) bytes) _ (leaf-told ports visit tag met (length (tag ∷ bytes)) bytes rest p)
+    (λ x q. viewed-told ports visit met x.0 x.1 x.2 q))
 
 pub item-told : (ports depth : ℕ) → InnerTold ports (λ all. item_met depth all) (item_at depth)
 unfolding item_at item_met
 item-told ports zero met bytes h p = refused_at-holds _ met (unpadded bytes)
 item-told ports (suc depth) met bytes h p =
     holds-if _ (leb 1_000_000 met.items) _ _ (λ e. refused_at-holds _ met (unpadded bytes)) (λ e.
-      let met1 : Met = record met { items = met.items + 1 } in
-      by (entered_at (item_at depth) met1 (unpadded bytes)) (leb-false 1_000_000 met.items e)
-        (entered-told ports (λ all. item_met depth all) (item_at depth) (item-told ports depth) met1 (unpadded bytes) (bytes-unpadded bytes h) p))
+    let met1 : Met = record met { items = met.items + 1 } in
+    by (entered_at (item_at depth) met1 (unpadded bytes)) (leb-false 1_000_000 met.items e)
+    (entered-told ports (λ all. item_met depth all) (item_at depth) (item-told ports depth) met1 (unpadded bytes) (bytes-unpadded bytes h) p))
   where
     by : (r : Result (Item × Met × List ℕ) Fault) → met.items < 1_000_000 → Holds (ValueTold ports (λ all. item_met depth all) (record met { items = met.items + 1 })) r → Holds (ItemTold ports (λ all. item_met (suc depth) all) met) r
     by (Err f) room v = tt
     by (Ok x) room v = record {
-        bytes = v.bytes;
-        grew = record { more = v.grew.more; nodes_are = v.grew.nodes_are; ports_are = v.grew.ports_are; fit = v.grew.fit };
-        plain = v.plain;
-        walks = λ all buffers continues. rw (lt-ltb met.items 1_000_000 room) (v.walks all buffers continues);
-      }
+      bytes = v.bytes;
+      grew = record { more = v.grew.more; nodes_are = v.grew.nodes_are; ports_are = v.grew.ports_are; fit = v.grew.fit };
+      plain = v.plain;
+      walks = λ all buffers continues. rw (lt-ltb met.items 1_000_000 room) (v.walks all buffers continues);
+    }

@@ -60,14 +60,19 @@ reference-again ports nodes inner put w met number t lt n a =
     let before : number < w.nodes = omega arith in
     let stands : number < length met.nodes = omega (arith, a.count) in
     record {
-      piece = reference number; tag = 94; body = varint number; more = []; met' = met;
+      piece = reference number;
+      tag = 94;
+      body = varint number;
+      more = [];
+      met' = met;
       puts = rw (lt-ltb number w.nodes before) (ap (λ m. written (w.bytes ++ reference number) m) n);
       starts = λ tail. refl;
       front = record { no_view = refl; no_map_end = refl; no_set_end = refl; no_hole = refl };
       reads = λ tail none. rw (varint-again number tail (omega (arith, a.few)), lt-ltb number (length met.nodes) stands) (viewed_at-none (items.Node number) met tail none);
       nodes_are = sym (append-nil met.nodes);
       agrees = a;
-      taken = sym (append-nil (take t.nodes nodes)); keeps = omega arith;
+      taken = sym (append-nil (take t.nodes nodes));
+      keeps = omega arith;
     }
 
 -- ---- nodes at their first visit
@@ -112,12 +117,19 @@ placed-again ports nodes node t t' w met lt found a b =
     record {
       met' = record met { units = t'.units; nodes = met.nodes ++ node ∷ [] };
       reads = λ left tail. leaf_at-node b.tag met left (b.body ++ tail) b.is_node
-        ∙ rw (not_full ports nodes met t a lt, b.reads left tail, not_full ports nodes met t a lt, a.count) refl;
+          ∙ rw (not_full ports nodes met t a lt, b.reads left tail, not_full ports nodes met t a lt, a.count) refl;
       nodes_are = refl;
       agrees = rw b.others (record {
-          ports_are = grown.ports_are; flags_are = grown.flags_are; count = grown.count; few = grown.few; items_are = grown.items_are; items_few = grown.items_few;
-          units_are = refl; sizes_are = grown.sizes_are; small = grown.small;
-        });
+        ports_are = grown.ports_are;
+        flags_are = grown.flags_are;
+        count = grown.count;
+        few = grown.few;
+        items_are = grown.items_are;
+        items_few = grown.items_few;
+        units_are = refl;
+        sizes_are = grown.sizes_are;
+        small = grown.small;
+      });
       taken = rw b.others (take-next nodes t.nodes node found);
       next = ap (λ (x : Tally). x.nodes) b.others;
       same_items = ap (λ (x : Tally). x.items) b.others;
@@ -135,7 +147,11 @@ first-again ports nodes inner put w met number node t t' e lt found n a stands b
     let p = placed-again ports nodes node t t' (record w { nodes = number + 1 }) met lt found_next a b in
     let new : w.nodes ≤ number = omega arith in
     record {
-      piece = b.tag ∷ b.body; tag = b.tag; body = b.body; more = node ∷ []; met' = p.met';
+      piece = b.tag ∷ b.body;
+      tag = b.tag;
+      body = b.body;
+      more = node ∷ [];
+      met' = p.met';
       puts = rw (le-ltb number w.nodes new, found) (stands ∙ b.puts put ∙ ap (λ m. written (w.bytes ++ b.tag ∷ b.body) m) (ap (λ m. m + 1) e ∙ sym p.next));
       starts = λ tail. node-starts b.tag (b.body ++ tail) b.is_node;
       front = node-front b.tag b.is_node;
@@ -156,12 +172,20 @@ view_bytes offset size = 86 ∷ 66 ∷ varint offset ++ (varint size ++ 0 ∷ []
 pub viewed-again : (ports : ℕ) (nodes : List PNode) (met : Met) (t t' : Tally) (of offset size whole number : ℕ) (tail : List ℕ)
     → Agrees ports nodes met t → buffer_size (slice_get met.nodes of) ≡ Some whole → offset + size ≤ whole → whole ≤ 1_048_576 → numbered number t ≡ Some t'
     → viewed_at (items.Node of) met (86 ∷ 66 ∷ (varint offset ++ (varint size ++ 0 ∷ tail)))
-      ≡ Ok (items.Node number, record met { nodes = met.nodes ++ kinds.View of offset size ∷ [] }, tail)
+    ≡ Ok (items.Node number, record met { nodes = met.nodes ++ kinds.View of offset size ∷ [] }, tail)
 unfolding viewed_at viewed_with view_at flags_at unpadded
 viewed-again ports nodes met t t' of offset size whole number tail a sized within short e =
     let k = numbered-is number t t' e in
-    rw (sized, not_full ports nodes met t a k.1, varint-again offset (varint size ++ 0 ∷ tail) (omega arith),
-        varint-again size (0 ∷ tail) (omega arith), le-ltb whole (offset + size) within, a.flags_are, a.count, k.0) refl
+    rw (
+      sized,
+      not_full ports nodes met t a k.1,
+      varint-again offset (varint size ++ 0 ∷ tail) (omega arith),
+      varint-again size (0 ∷ tail) (omega arith),
+      le-ltb whole (offset + size) within,
+      a.flags_are,
+      a.count,
+      k.0,
+    ) refl
 
 -- What stands behind a view's buffer.
 view-agrees : (ports : ℕ) (nodes : List PNode) (met : Met) (t t' : Tally) (of offset size number : ℕ) → Agrees ports nodes met t → numbered number t ≡ Some t'
@@ -170,9 +194,10 @@ view-agrees : (ports : ℕ) (nodes : List PNode) (met : Met) (t t' : Tally) (of 
 view-agrees ports nodes met t t' of offset size number a e found =
     let k = numbered-is number t t' e in
     let found_next : slice_get nodes t.nodes ≡ Some (kinds.View of offset size) = subst (λ n. slice_get nodes n ≡ Some (kinds.View of offset size)) k.0 found in
-    subst (λ (x : Tally). Agrees ports nodes (record met { nodes = met.nodes ++ kinds.View of offset size ∷ [] }) x × (take x.nodes nodes ≡ take t.nodes nodes ++ kinds.View of offset size ∷ [])) (sym k.2)
-      (node-agrees ports nodes met t (kinds.View of offset size) (kinds.View of offset size) a k.1 found_next refl (λ s h. absurd cc),
-       take-next nodes t.nodes (kinds.View of offset size) found_next)
+    subst (λ (x : Tally). Agrees ports nodes (record met { nodes = met.nodes ++ kinds.View of offset size ∷ [] }) x × (take x.nodes nodes ≡ take t.nodes nodes ++ kinds.View of offset size ∷ [])) (sym k.2) (
+      node-agrees ports nodes met t (kinds.View of offset size) (kinds.View of offset size) a k.1 found_next refl (λ s h. absurd cc),
+      take-next nodes t.nodes (kinds.View of offset size) found_next,
+    )
 
 view-regroup : (front : List ℕ) (offset size : ℕ) (tail : List ℕ)
     → (front ++ view_bytes offset size) ++ tail ≡ front ++ (86 ∷ 66 ∷ (varint offset ++ (varint size ++ 0 ∷ tail)))
@@ -194,14 +219,17 @@ view-old ports nodes inner put w met number of offset size bytes t t' old new fo
     let there : of < length met.nodes = omega (arith, a.count) in
     let next : number + 1 ≡ t'.nodes = ap (λ m. m + 1) k.0 ∙ sym (ap (λ (x : Tally). x.nodes) k.2) in
     record {
-      piece = reference of ++ view_bytes offset size; tag = 94; body = varint of ++ view_bytes offset size;
-      more = kinds.View of offset size ∷ []; met' = record met { nodes = met.nodes ++ kinds.View of offset size ∷ [] };
+      piece = reference of ++ view_bytes offset size;
+      tag = 94;
+      body = varint of ++ view_bytes offset size;
+      more = kinds.View of offset size ∷ [];
+      met' = record met { nodes = met.nodes ++ kinds.View of offset size ∷ [] };
       puts = rw (le-ltb number w.nodes first, found, stands, lt-ltb of w.nodes before)
-        (ap (λ (b : List ℕ). written b (number + 1)) (append_assoc w.bytes (reference of) (view_bytes offset size)) ∙ ap (λ m. written (w.bytes ++ (reference of ++ view_bytes offset size)) m) next);
+          (ap (λ (b : List ℕ). written b (number + 1)) (append_assoc w.bytes (reference of) (view_bytes offset size)) ∙ ap (λ m. written (w.bytes ++ (reference of ++ view_bytes offset size)) m) next);
       starts = λ tail. refl;
       front = record { no_view = refl; no_map_end = refl; no_set_end = refl; no_hole = refl };
       reads = λ tail none. rw (view-regroup (varint of) offset size tail, varint-again of (86 ∷ 66 ∷ (varint offset ++ (varint size ++ 0 ∷ tail))) (omega (arith, a.few)), lt-ltb of (length met.nodes) there)
-        (viewed-again ports nodes met t t' of offset size (length bytes) number tail a sized within short e);
+          (viewed-again ports nodes met t t' of offset size (length bytes) number tail a sized within short e);
       nodes_are = refl;
       agrees = v.0;
       taken = v.1;
@@ -230,29 +258,32 @@ view-new ports nodes inner put w met number of offset size bytes t t1 t' new lt 
     let fresh : w.nodes ≤ of = omega arith in
     let body_is : b.tag ∷ b.body ≡ buffer bytes = buffer-piece bytes (record t { nodes = t.nodes + 1 }) t1 (record w { nodes = of + 1 }) met b in
     let last : slice_get p.met'.nodes t.nodes ≡ Some (kinds.Buffer bytes) =
-        ap (λ xs. slice_get xs t.nodes) p.nodes_are ∙ slice_get-last met.nodes (kinds.Buffer bytes) t.nodes (sym a.count) in
+    ap (λ xs. slice_get xs t.nodes) p.nodes_are ∙ slice_get-last met.nodes (kinds.Buffer bytes) t.nodes (sym a.count) in
     let sized : buffer_size (slice_get p.met'.nodes t.nodes) ≡ Some (length bytes) = ap buffer_size last in
     let v = view-agrees ports nodes p.met' t1 t' of offset size number p.agrees e found in
     let next : number + 1 ≡ t'.nodes = ap (λ m. m + 1) k.0 ∙ sym (ap (λ (x : Tally). x.nodes) k.2) in
     let shown : kinds.View t.nodes offset size ≡ kinds.View of offset size = ap (λ m. kinds.View m offset size) (sym new) in
     let met' : Met = record p.met' { nodes = p.met'.nodes ++ kinds.View of offset size ∷ [] } in
     record {
-      piece = (b.tag ∷ b.body) ++ view_bytes offset size; tag = b.tag; body = b.body ++ view_bytes offset size;
-      more = kinds.Buffer bytes ∷ kinds.View of offset size ∷ []; met' = met';
+      piece = (b.tag ∷ b.body) ++ view_bytes offset size;
+      tag = b.tag;
+      body = b.body ++ view_bytes offset size;
+      more = kinds.Buffer bytes ∷ kinds.View of offset size ∷ [];
+      met' = met';
       puts = rw (le-ltb number w.nodes first, found, stands, le-ltb of w.nodes fresh)
-        (ap (λ (x : List ℕ). written ((w.bytes ++ x) ++ view_bytes offset size) (number + 1)) (sym body_is)
-        ∙ ap (λ (x : List ℕ). written x (number + 1)) (append_assoc w.bytes (b.tag ∷ b.body) (view_bytes offset size))
-        ∙ ap (λ m. written (w.bytes ++ ((b.tag ∷ b.body) ++ view_bytes offset size)) m) next);
+          (ap (λ (x : List ℕ). written ((w.bytes ++ x) ++ view_bytes offset size) (number + 1)) (sym body_is)
+          ∙ ap (λ (x : List ℕ). written x (number + 1)) (append_assoc w.bytes (b.tag ∷ b.body) (view_bytes offset size))
+          ∙ ap (λ m. written (w.bytes ++ ((b.tag ∷ b.body) ++ view_bytes offset size)) m) next);
       starts = λ tail. node-starts b.tag ((b.body ++ view_bytes offset size) ++ tail) b.is_node;
       front = node-front b.tag b.is_node;
       reads = λ tail none.
           let left = length (b.tag ∷ ((b.body ++ view_bytes offset size) ++ tail)) in
           let rest = 86 ∷ 66 ∷ (varint offset ++ (varint size ++ 0 ∷ tail)) in
           let leaf : leaf_at b.tag met left ((b.body ++ view_bytes offset size) ++ tail) ≡ Ok (items.Node t.nodes, p.met', rest) =
-            ap (λ (x : List ℕ). leaf_at b.tag met left x) (view-regroup b.body offset size tail) ∙ p.reads left rest in
+          ap (λ (x : List ℕ). leaf_at b.tag met left x) (view-regroup b.body offset size tail) ∙ p.reads left rest in
           rw (node-leaf b.tag b.is_node, leaf)
-            (ap (λ m. viewed_at (items.Node m) p.met' rest) (sym new)
-            ∙ viewed-again ports nodes p.met' t1 t' of offset size (length bytes) number tail p.agrees (ap (λ m. buffer_size (slice_get p.met'.nodes m)) new ∙ sized) within (b.fits (length bytes) refl) e);
+          (ap (λ m. viewed_at (items.Node m) p.met' rest) (sym new)
+          ∙ viewed-again ports nodes p.met' t1 t' of offset size (length bytes) number tail p.agrees (ap (λ m. buffer_size (slice_get p.met'.nodes m)) new ∙ sized) within (b.fits (length bytes) refl) e);
       nodes_are = ap (λ xs. xs ++ kinds.View of offset size ∷ []) p.nodes_are ∙ append_assoc met.nodes (kinds.Buffer bytes ∷ []) (kinds.View of offset size ∷ []);
       agrees = v.0;
       taken = v.1 ∙ ap (λ xs. xs ++ kinds.View of offset size ∷ []) p.taken ∙ append_assoc (take t.nodes nodes) (kinds.Buffer bytes ∷ []) (kinds.View of offset size ∷ []);
@@ -271,18 +302,18 @@ view-again ports nodes inner put w met number of offset size (Some (kinds.Buffer
     let c = some_bind (only_if (leb (offset + size) (length bytes)) t) (λ m. cond (ltb of m.nodes) (Some m) (checked.◌>>=◌ (numbered of m) (with_contents bytes))) b.0 b.1 in
     let o = only_if-is (leb (offset + size) (length bytes)) t c.0 c.1 in
     let f : cond (ltb of t.nodes) (Some t) (checked.◌>>=◌ (numbered of t) (with_contents bytes)) ≡ Some b.0 =
-      subst (λ (m : Tally). cond (ltb of m.nodes) (Some m) (checked.◌>>=◌ (numbered of m) (with_contents bytes)) ≡ Some b.0) (sym o.1) c.2 in
+    subst (λ (m : Tally). cond (ltb of m.nodes) (Some m) (checked.◌>>=◌ (numbered of m) (with_contents bytes)) ≡ Some b.0) (sym o.1) c.2 in
     elim (cases_lt of t.nodes) [
       | inl old ↦
           let same : t ≡ b.0 = let g = rw (lt-ltb of t.nodes old) at f in cc in
           view-old ports nodes inner put w met number of offset size bytes t t' old later found stands (leb-true _ _ o.0)
-            (subst (λ (m : Tally). numbered number m ≡ Some t') (sym same) b.2) n a
+          (subst (λ (m : Tally). numbered number m ≡ Some t') (sym same) b.2) n a
       | inr fresh ↦
           let g = rw (le-ltb of t.nodes fresh) at f in
           let d = some_bind (numbered of t) (with_contents bytes) b.0 g in
           let k = numbered-is of t d.0 d.1 in
           view-new ports nodes inner put w met number of offset size bytes t b.0 t' k.0 k.1 later found stands (leb-true _ _ o.0)
-            (subst (λ (m : Tally). with_contents bytes m ≡ Some b.0) k.2 d.2) b.2 n a
+          (subst (λ (m : Tally). with_contents bytes m ≡ Some b.0) k.2 d.2) b.2 n a
     ]
 view-again ports nodes inner put w met number of offset size (Some (kinds.Object x)) t t' later found stands e n a = absurd cc
 view-again ports nodes inner put w met number of offset size (Some (kinds.Array x)) t t' later found stands e n a = absurd cc

@@ -18,12 +18,12 @@ groups-again left zero n tail lt =
     let e : n % 128 ≡ n = omega arith in
     rw (e, lt-ltb n 16 lt) refl
 groups-again left (suc more) n tail lt = elim (cases_lt n 128) [
-    | inl small ↦ rw (lt-ltb n 128 small, lt-ltb n 128 small) refl
-    | inr large ↦
-        let high : n / 128 < bound more = omega arith in
-        let e : n % 128 + 128 - 128 + 128 * (n / 128) ≡ n = omega arith in
-        rw (le-ltb n 128 large, le-ltb (n % 128 + 128) 128 (omega arith), groups-again left more (n / 128) tail high, e) refl
-  ]
+  | inl small ↦ rw (lt-ltb n 128 small, lt-ltb n 128 small) refl
+  | inr large ↦
+      let high : n / 128 < bound more = omega arith in
+      let e : n % 128 + 128 - 128 + 128 * (n / 128) ≡ n = omega arith in
+      rw (le-ltb n 128 large, le-ltb (n % 128 + 128) 128 (omega arith), groups-again left more (n / 128) tail high, e) refl
+]
 
 pub varint-again : (n : ℕ) (tail : List ℕ) → n < 2 ^ 32 → varint_at (varint n ++ tail) ≡ Ok (n, tail)
 unfolding varint_at varint bound
@@ -65,12 +65,12 @@ doubled-is : (more n : ℕ) → n < 9_007_199_254_740_992 → 4_503_599_627_370_
 unfolding doubled
 doubled-is zero n lt le = doubled-stays zero n lt (omega arith)
 doubled-is (suc more) n lt le = elim (cases_lt n 4_503_599_627_370_496) [
-    | inl small ↦
-        let grown : 4_503_599_627_370_496 ≤ n * (2 * 2 ^ more) = rw (pow-succ' 2 more) at le in
-        let enough : 4_503_599_627_370_496 ≤ (2 * n) * 2 ^ more = omega (arith, grown) in
-        rw (lt-ltb n 4_503_599_627_370_496 small) (doubled-goes_on more n (doubled more (2 * n)) (doubled-is more (2 * n) (omega arith) enough))
-    | inr large ↦ rw (le-ltb n 4_503_599_627_370_496 large) (doubled-stays (suc more) n lt large)
-  ]
+  | inl small ↦
+      let grown : 4_503_599_627_370_496 ≤ n * (2 * 2 ^ more) = rw (pow-succ' 2 more) at le in
+      let enough : 4_503_599_627_370_496 ≤ (2 * n) * 2 ^ more = omega (arith, grown) in
+      rw (lt-ltb n 4_503_599_627_370_496 small) (doubled-goes_on more n (doubled more (2 * n)) (doubled-is more (2 * n) (omega arith) enough))
+  | inr large ↦ rw (le-ltb n 4_503_599_627_370_496 large) (doubled-stays (suc more) n lt large)
+]
 
 two-power : (k : ℕ) → 0 < 2 ^ k
 two-power zero = omega arith
@@ -155,16 +155,16 @@ number-again z safe = by (is_short z) refl
   where
     by : (b : Bool) → is_short z ≡ b → NumberAgain z
     by true short = record {
-        tag = 73;
-        body = varint (zigzag z);
-        piece = rw short refl;
-        is_number = inl refl;
-        again = λ left tail. rw (varint-again (zigzag z) tail (zigzag-fits z short), unzigzag-zigzag z) refl;
-      }
+      tag = 73;
+      body = varint (zigzag z);
+      piece = rw short refl;
+      is_number = inl refl;
+      again = λ left tail. rw (varint-again (zigzag z) tail (zigzag-fits z short), unzigzag-zigzag z) refl;
+    }
     by false long = record {
-        tag = 78;
-        body = to_le_bytes w64 (double_word z);
-        piece = rw long refl;
-        is_number = inr refl;
-        again = λ left tail. double-again left z tail long safe;
-      }
+      tag = 78;
+      body = to_le_bytes w64 (double_word z);
+      piece = rw long refl;
+      is_number = inr refl;
+      again = λ left tail. double-again left z tail long safe;
+    }

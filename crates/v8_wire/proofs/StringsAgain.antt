@@ -24,8 +24,12 @@ bytes-again count bytes tail e =
 narrow-again : (left : ℕ) (text tail : List ℕ) → length text ≤ 1_048_576 → narrow_at left ((varint (length text) ++ text) ++ tail) ≡ Ok (text, tail)
 unfolding narrow_at
 narrow-again left text tail le =
-    rw (append_assoc (varint (length text)) text tail, varint-again (length text) (text ++ tail) (omega arith),
-        le-ltb 1_048_576 (length text) le, bytes-again (length text) text tail refl) refl
+    rw (
+      append_assoc (varint (length text)) text tail,
+      varint-again (length text) (text ++ tail) (omega arith),
+      le-ltb 1_048_576 (length text) le,
+      bytes-again (length text) text tail refl,
+    ) refl
 
 pub length-pair : (text : List ℕ) → length (flat_map pair text) ≡ 2 * length text
 length-pair [] = refl
@@ -44,9 +48,15 @@ unfolding wide_at
 wide-again left text tail le =
     let even : 2 * length text % 2 ≢ 1 = omega arith in
     let half : 2 * length text / 2 ≡ length text = omega arith in
-    rw (append_assoc (varint (2 * length text)) (flat_map pair text) tail, varint-again (2 * length text) (flat_map pair text ++ tail) (omega arith),
-        ne_eqb (2 * length text % 2) 1 even, half, le-ltb 1_048_576 (length text) le,
-        bytes-again (2 * length text) (flat_map pair text) tail (length-pair text), pairs-pair text) refl
+    rw (
+      append_assoc (varint (2 * length text)) (flat_map pair text) tail,
+      varint-again (2 * length text) (flat_map pair text ++ tail) (omega arith),
+      ne_eqb (2 * length text % 2) 1 even,
+      half,
+      le-ltb 1_048_576 (length text) le,
+      bytes-again (2 * length text) (flat_map pair text) tail (length-pair text),
+      pairs-pair text,
+    ) refl
 
 -- A string with its tag, behind some padding.
 pub record StringAgain (at : ℕ) (text : List ℕ) : Type 0 where
@@ -63,18 +73,19 @@ string-again at text le = by (is_narrow text) refl
     padded : (odd : Bool) (tail : List ℕ) → unpadded ((cond odd (0 ∷ []) [] ++ (99 ∷ varint (2 * length text) ++ flat_map pair text)) ++ tail) ≡ 99 ∷ ((varint (2 * length text) ++ flat_map pair text) ++ tail)
     padded true tail = refl
     padded false tail = refl
+
     by : (b : Bool) → is_narrow text ≡ b → StringAgain at text
     by true narrow = record {
-        tag = 34;
-        body = varint (length text) ++ text;
-        starts = λ tail. rw narrow refl;
-        is_string = inl refl;
-        again = λ left tail. narrow-again left text tail le;
-      }
+      tag = 34;
+      body = varint (length text) ++ text;
+      starts = λ tail. rw narrow refl;
+      is_string = inl refl;
+      again = λ left tail. narrow-again left text tail le;
+    }
     by false broad = record {
-        tag = 99;
-        body = varint (2 * length text) ++ flat_map pair text;
-        starts = λ tail. rw broad (padded _ tail);
-        is_string = inr refl;
-        again = λ left tail. wide-again left text tail le;
-      }
+      tag = 99;
+      body = varint (2 * length text) ++ flat_map pair text;
+      starts = λ tail. rw broad (padded _ tail);
+      is_string = inr refl;
+      again = λ left tail. wide-again left text tail le;
+    }

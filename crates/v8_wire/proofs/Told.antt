@@ -94,36 +94,45 @@ port-told ports met left [] h p = tt
 port-told ports met left (b ∷ bytes) h p =
     let q = and_true (ltb b 256) (list_all (λ b. ltb b 256) bytes) h in
     holds-if _ (eqb b 77) _ _
-      (λ e. holds-bind (λ x. (x.0 < 2 ^ 32) × AreBytes x.1) _ (varint_at bytes) _ (varint-holds bytes q.1) (λ n r.
-        holds-if _ (ltb n.0 met.ports) _ _
-          (λ f. record {
-            bytes = r.1; others = refl; fit = subst (λ k. ltb n.0 k ≡ true) p f;
-            walks = λ visit all k lt e. rw (numbered-walks k met lt e, lt-ltb n.0 4_294_967_296 (omega (arith, r.0))) refl;
-          })
-          (λ f. tt)))
-      (λ e. tt)
+    (λ e. holds-bind (λ x. (x.0 < 2 ^ 32) × AreBytes x.1) _ (varint_at bytes) _ (varint-holds bytes q.1) (λ n r.
+    holds-if _ (ltb n.0 met.ports) _ _
+    (λ f. record {
+      bytes = r.1;
+      others = refl;
+      fit = subst (λ k. ltb n.0 k ≡ true) p f;
+      walks = λ visit all k lt e. rw (numbered-walks k met lt e, lt-ltb n.0 4_294_967_296 (omega (arith, r.0))) refl;
+    })
+    (λ f. tt)))
+    (λ e. tt)
 
 buffer-told : (ports : ℕ) (met : Met) (left : ℕ) (bytes : List ℕ) → AreBytes bytes → Holds (BodyTold ports met) (buffer_at met left bytes)
 unfolding buffer_at node_met contents_met items_of
 buffer-told ports met left bytes h =
     holds-bind (λ x. (x.0 < 2 ^ 32) × AreBytes x.1) _ (varint_at bytes) _ (varint-holds bytes h) (λ n r.
-      holds-if _ (ltb 1_048_576 n.0) _ _ (λ e. tt) (λ e.
-        holds-bind (λ x. (length x.0 ≡ n.0) × AreBytes x.0 × AreBytes x.1) _ (bytes_at n.0 n.1) _ (bytes_at-holds n.0 n.1 r.1) (λ x s.
-          holds-bind (Counted (length x.0) met) _ (met_words.with_units left (length x.0) met) _ (counted-holds left (length x.0) met) (λ counted c.
-            record {
-              bytes = s.2; others = rw c.is refl; fit = refl;
-              walks = λ visit all k lt f. rw (numbered-walks k met lt f, c.is, le-leb (length x.0) 1_048_576 (omega (arith, s.0, ltb-false 1_048_576 n.0 e)), s.1,
-                le-leb (met.units + length x.0) 16_777_216 c.few) refl;
-            }))))
+    holds-if _ (ltb 1_048_576 n.0) _ _ (λ e. tt) (λ e.
+    holds-bind (λ x. (length x.0 ≡ n.0) × AreBytes x.0 × AreBytes x.1) _ (bytes_at n.0 n.1) _ (bytes_at-holds n.0 n.1 r.1) (λ x s.
+    holds-bind (Counted (length x.0) met) _ (met_words.with_units left (length x.0) met) _ (counted-holds left (length x.0) met) (λ counted c.
+    record {
+      bytes = s.2;
+      others = rw c.is refl;
+      fit = refl;
+      walks = λ visit all k lt f. rw (
+        numbered-walks k met lt f,
+        c.is,
+        le-leb (length x.0) 1_048_576 (omega (arith, s.0, ltb-false 1_048_576 n.0 e)),
+        s.1,
+        le-leb (met.units + length x.0) 16_777_216 c.few,
+      ) refl;
+    }))))
 
 text_with-holds : (bytes : List ℕ) → AreBytes bytes → Holds (λ x. (is_text x.1 ≡ true) × AreBytes x.2) (text_with bytes)
 unfolding text_with
 text_with-holds [] h = tt
 text_with-holds (tag ∷ bytes) h =
     holds-if _ (is_text_tag tag) _ _
-      (λ e. holds-bind (λ x. (is_text x.0 ≡ true) × AreBytes x.1) _ (string_at tag (length (tag ∷ bytes)) bytes) _
-        (string-holds tag (length (tag ∷ bytes)) bytes (and_true (ltb tag 256) (list_all (λ b. ltb b 256) bytes) h).1) (λ x q. q))
-      (λ e. tt)
+    (λ e. holds-bind (λ x. (is_text x.0 ≡ true) × AreBytes x.1) _ (string_at tag (length (tag ∷ bytes)) bytes) _
+    (string-holds tag (length (tag ∷ bytes)) bytes (and_true (ltb tag 256) (list_all (λ b. ltb b 256) bytes) h).1) (λ x q. q))
+    (λ e. tt)
 
 text_at-holds : (bytes : List ℕ) → AreBytes bytes → Holds (λ x. (is_text x.1 ≡ true) × AreBytes x.2) (text_at bytes)
 unfolding text_at
@@ -151,18 +160,18 @@ unfolding message_at
 message-told met [] h = record { bytes = refl; others = refl; walks = λ n. refl }
 message-told met (b ∷ bytes) h =
     holds-if _ (eqb b 109) _ _
-      (λ e. holds-bind (λ x. (is_text x.1 ≡ true) × AreBytes x.2) _ (text_at bytes) _ (text_at-holds bytes (and_true (ltb b 256) (list_all (λ b. ltb b 256) bytes) h).1) (λ x q.
-        holds-bind (Counted (length x.1) met) _ (met_words.with_units x.0 (length x.1) met) _ (counted-holds x.0 (length x.1) met) (λ counted c.
-          record { bytes = q.1; others = rw c.is refl; walks = λ n. rw c.is (text-walks x.1 (record { nodes = n; items = met.items; units = met.units }) q.0 c.few) })))
-      (λ e. record { bytes = h; others = refl; walks = λ n. refl })
+    (λ e. holds-bind (λ x. (is_text x.1 ≡ true) × AreBytes x.2) _ (text_at bytes) _ (text_at-holds bytes (and_true (ltb b 256) (list_all (λ b. ltb b 256) bytes) h).1) (λ x q.
+    holds-bind (Counted (length x.1) met) _ (met_words.with_units x.0 (length x.1) met) _ (counted-holds x.0 (length x.1) met) (λ counted c.
+    record { bytes = q.1; others = rw c.is refl; walks = λ n. rw c.is (text-walks x.1 (record { nodes = n; items = met.items; units = met.units }) q.0 c.few) })))
+    (λ e. record { bytes = h; others = refl; walks = λ n. refl })
 
 stack-told : (bytes : List ℕ) → AreBytes bytes → Holds AreBytes (stack_at bytes)
 unfolding stack_at
 stack-told [] h = refl
 stack-told (b ∷ bytes) h =
     holds-if _ (eqb b 115) _ _
-      (λ e. holds-bind (λ x. (is_text x.1 ≡ true) × AreBytes x.2) AreBytes (text_at bytes) _ (text_at-holds bytes (and_true (ltb b 256) (list_all (λ b. ltb b 256) bytes) h).1) (λ x q. q.1))
-      (λ e. h)
+    (λ e. holds-bind (λ x. (is_text x.1 ≡ true) × AreBytes x.2) AreBytes (text_at bytes) _ (text_at-holds bytes (and_true (ltb b 256) (list_all (λ b. ltb b 256) bytes) h).1) (λ x q. q.1))
+    (λ e. h)
 
 end-told : (bytes : List ℕ) → AreBytes bytes → Holds AreBytes (end_at bytes)
 unfolding end_at
@@ -173,18 +182,20 @@ error-told : (ports : ℕ) (met : Met) (bytes : List ℕ) → AreBytes bytes →
 unfolding error_at node_met contents_met items_of
 error-told ports met bytes h =
     holds-bind (MessageTold met) _ (message_at met (kind_at bytes).1) _ (message-told met (kind_at bytes).1 (kind-bytes bytes h)) (λ m q.
-      holds-bind AreBytes _ (stack_at m.2) _ (stack-told m.2 q.bytes) (λ rest r.
-        holds-bind AreBytes _ (end_at rest) _ (end-told rest r) (λ last s.
-          record {
-            bytes = s; others = q.others; fit = refl;
-            walks = λ visit all k lt e. rw (numbered-walks k met lt e) (q.walks (k + 1));
-          })))
+    holds-bind AreBytes _ (stack_at m.2) _ (stack-told m.2 q.bytes) (λ rest r.
+    holds-bind AreBytes _ (end_at rest) _ (end-told rest r) (λ last s.
+    record {
+      bytes = s;
+      others = q.others;
+      fit = refl;
+      walks = λ visit all k lt e. rw (numbered-walks k met lt e) (q.walks (k + 1));
+    })))
 
 node-told : (ports tag : ℕ) (met : Met) (left : ℕ) (bytes : List ℕ) → AreBytes bytes → met.ports ≡ ports → Holds (BodyTold ports met) (node_at tag met left bytes)
 unfolding node_at
 node-told ports tag met left bytes h p =
     holds-if _ (eqb tag 114) _ _ (λ e. error-told ports met bytes h)
-      (λ e. holds-if _ (eqb tag 92) _ _ (λ f. port-told ports met left bytes h p) (λ f. buffer-told ports met left bytes h))
+    (λ e. holds-if _ (eqb tag 92) _ _ (λ f. port-told ports met left bytes h p) (λ f. buffer-told ports met left bytes h))
 
 -- ---- lists of nodes
 
@@ -210,10 +221,10 @@ pub placed-told : (ports : ℕ) (visit : List PNode → Item → Tally → Optio
 unfolding placed_at value_met
 placed-told ports visit tag met left bytes h p =
     holds-if _ (are_full met.nodes) _ _ (λ e. rather-holds (ValueTold ports visit met) TooLarge left (node_at tag met left bytes)) (λ e.
-      holds-bind (BodyTold ports met) _ (node_at tag met left bytes) _ (node-told ports tag met left bytes h p) (λ x b.
-        let same : x.1.nodes ≡ met.nodes = ap (λ (m : Met). m.nodes) b.others in
-        let room : length met.nodes < 100_000 = leb-false 100_000 (length met.nodes) e in
-        holds-if-bind x b same room))
+    holds-bind (BodyTold ports met) _ (node_at tag met left bytes) _ (node-told ports tag met left bytes h p) (λ x b.
+    let same : x.1.nodes ≡ met.nodes = ap (λ (m : Met). m.nodes) b.others in
+    let room : length met.nodes < 100_000 = leb-false 100_000 (length met.nodes) e in
+    holds-if-bind x b same room))
   where
     holds-if-bind : (x : PNode × Met × List ℕ) → BodyTold ports met x → x.1.nodes ≡ met.nodes → length met.nodes < 100_000
         → Holds (ValueTold ports visit met) (met_words.with_node left x.0 x.1 >>= λ n. Ok (items.Node n.0, n.1, x.2))
@@ -224,12 +235,12 @@ placed-told ports visit tag met left bytes h p =
           grew = record { more = x.0 ∷ []; nodes_are = ap (λ xs. xs ++ x.0 ∷ []) same; ports_are = ap (λ (m : Met). m.ports) b.others; fit = rw b.fit refl };
           plain = refl;
           walks = λ all buffers continues.
-            let at : slice_get (x.1.nodes ++ x.0 ∷ []) (length x.1.nodes) ≡ Some x.0 = slice_get-seam x.1.nodes [] x.0 in
-            let found : slice_get all (length x.1.nodes) ≡ Some x.0 = continues (length x.1.nodes) x.0 (omega (arith, ap length same)) at in
-            let new : ltb (length x.1.nodes) (length met.nodes) ≡ false = le-ltb (length x.1.nodes) (length met.nodes) (omega (arith, ap length same)) in
-            let items_are : x.1.items ≡ met.items = ap (λ (m : Met). m.items) b.others in
-            let last : length (x.1.nodes ++ x.0 ∷ []) ≡ length x.1.nodes + 1 = length-append x.1.nodes (x.0 ∷ []) in
-            rw (new, found) (b.walks (visit all) all (length x.1.nodes) (omega (arith, ap length same)) (ap length same)
+              let at : slice_get (x.1.nodes ++ x.0 ∷ []) (length x.1.nodes) ≡ Some x.0 = slice_get-seam x.1.nodes [] x.0 in
+              let found : slice_get all (length x.1.nodes) ≡ Some x.0 = continues (length x.1.nodes) x.0 (omega (arith, ap length same)) at in
+              let new : ltb (length x.1.nodes) (length met.nodes) ≡ false = le-ltb (length x.1.nodes) (length met.nodes) (omega (arith, ap length same)) in
+              let items_are : x.1.items ≡ met.items = ap (λ (m : Met). m.items) b.others in
+              let last : length (x.1.nodes ++ x.0 ∷ []) ≡ length x.1.nodes + 1 = length-append x.1.nodes (x.0 ∷ []) in
+              rw (new, found) (b.walks (visit all) all (length x.1.nodes) (omega (arith, ap length same)) (ap length same)
               ∙ ap (λ (t : Tally). Some t) (tally-is (length x.1.nodes) x.1.units last items_are));
         })
       where
@@ -249,20 +260,22 @@ leaf-told ports visit tag met left bytes h p =
     holds-if _ (eqb tag 84) _ _ (λ e. record { bytes = h; grew = same; plain = refl; walks = λ all b c. refl }) (λ e.
     holds-if _ (eqb tag 70) _ _ (λ e. record { bytes = h; grew = same; plain = refl; walks = λ all b c. refl }) (λ e.
     holds-if _ (is_number_tag tag) _ _
-      (λ e. holds-bind (λ x. (is_safe x.0 ≡ true) × AreBytes x.1) _ (number_at tag left bytes) _ (number-holds tag left bytes h)
-        (λ n q. record { bytes = q.1; grew = same; plain = refl; walks = λ all b c. rw q.0 refl })) (λ e.
+    (λ e. holds-bind (λ x. (is_safe x.0 ≡ true) × AreBytes x.1) _ (number_at tag left bytes) _ (number-holds tag left bytes h)
+    (λ n q. record { bytes = q.1; grew = same; plain = refl; walks = λ all b c. rw q.0 refl })) (λ e.
     holds-if _ (is_text_tag tag) _ _
-      (λ e. holds-bind (λ x. (is_text x.0 ≡ true) × AreBytes x.1) _ (string_at tag left bytes) _ (string-holds tag left bytes h) (λ s q.
-        holds-bind (Counted (length s.0) met) _ (met_words.with_units left (length s.0) met) _ (counted-holds left (length s.0) met) (λ counted c.
-          record {
-            bytes = q.1; grew = grew-same ports met counted (ap (λ (m : Met). m.nodes) c.is) (ap (λ (m : Met). m.ports) c.is); plain = refl;
-            walks = λ all b k. rw c.is (text-walks s.0 (tally met) q.0 c.few);
-          }))) (λ e.
+    (λ e. holds-bind (λ x. (is_text x.0 ≡ true) × AreBytes x.1) _ (string_at tag left bytes) _ (string-holds tag left bytes h) (λ s q.
+    holds-bind (Counted (length s.0) met) _ (met_words.with_units left (length s.0) met) _ (counted-holds left (length s.0) met) (λ counted c.
+    record {
+      bytes = q.1;
+      grew = grew-same ports met counted (ap (λ (m : Met). m.nodes) c.is) (ap (λ (m : Met). m.ports) c.is);
+      plain = refl;
+      walks = λ all b k. rw c.is (text-walks s.0 (tally met) q.0 c.few);
+    }))) (λ e.
     holds-if _ (is_node_tag tag) _ _ (λ e. placed-told ports visit tag met left bytes h p) (λ e.
     holds-if _ (eqb tag 94) _ _
-      (λ e. holds-bind (λ x. (x.0 < 2 ^ 32) × AreBytes x.1) _ (varint_at bytes) _ (varint-holds bytes h) (λ n q.
-        holds-if _ (ltb n.0 (length met.nodes)) _ _ (λ f. record { bytes = q.1; grew = same; plain = refl; walks = λ all b c. rw f refl }) (λ f. tt)))
-      (λ e. tt))))))))
+    (λ e. holds-bind (λ x. (x.0 < 2 ^ 32) × AreBytes x.1) _ (varint_at bytes) _ (varint-holds bytes h) (λ n q.
+    holds-if _ (ltb n.0 (length met.nodes)) _ _ (λ f. record { bytes = q.1; grew = same; plain = refl; walks = λ all b c. rw f refl }) (λ f. tt)))
+    (λ e. tt))))))))
 
 -- ---- views
 
@@ -308,16 +321,16 @@ module _ (ports : ℕ) (visit : List PNode → Item → Tally → Option Tally) 
         };
         plain = refl;
         walks = λ all buffers continues.
-          let front : Continues all (length met.nodes) m.nodes = λ i node le e. continues i node le (slice_get-front m.nodes (kinds.View of offset count ∷ []) i (slice_get_within m.nodes i node e) ∙ e) in
-          let leaf = x.walks all buffers front in
-          let stands : slice_get all of ≡ Some (kinds.Buffer b.0) = elim (cases_lt of (length met.nodes)) [
+            let front : Continues all (length met.nodes) m.nodes = λ i node le e. continues i node le (slice_get-front m.nodes (kinds.View of offset count ∷ []) i (slice_get_within m.nodes i node e) ∙ e) in
+            let leaf = x.walks all buffers front in
+            let stands : slice_get all of ≡ Some (kinds.Buffer b.0) = elim (cases_lt of (length met.nodes)) [
               | inl old ↦ buffers of b.0 (sym (ap (λ l. slice_get l of) x.grew.nodes_are ∙ slice_get-front met.nodes x.grew.more of old) ∙ b.1)
               | inr new ↦ front of (kinds.Buffer b.0) new b.1
             ] in
-          let found : slice_get all (length m.nodes) ≡ Some (kinds.View of offset count) = continues (length m.nodes) (kinds.View of offset count) (omega arith) (slice_get-seam m.nodes [] (kinds.View of offset count)) in
-          let new : ltb (length m.nodes) (length met.nodes) ≡ false = le-ltb (length m.nodes) (length met.nodes) (omega arith) in
-          let last : length (m.nodes ++ kinds.View of offset count ∷ []) ≡ length m.nodes + 1 = length-append m.nodes (kinds.View of offset count ∷ []) in
-          rw (new, found, stands, buffer-walks visit all of offset count b.0 (tally met) (tally m) leaf stands (omega (arith, b.2)), numbered-walks (length m.nodes) m room refl)
+            let found : slice_get all (length m.nodes) ≡ Some (kinds.View of offset count) = continues (length m.nodes) (kinds.View of offset count) (omega arith) (slice_get-seam m.nodes [] (kinds.View of offset count)) in
+            let new : ltb (length m.nodes) (length met.nodes) ≡ false = le-ltb (length m.nodes) (length met.nodes) (omega arith) in
+            let last : length (m.nodes ++ kinds.View of offset count ∷ []) ≡ length m.nodes + 1 = length-append m.nodes (kinds.View of offset count ∷ []) in
+            rw (new, found, stands, buffer-walks visit all of offset count b.0 (tally met) (tally m) leaf stands (omega (arith, b.2)), numbered-walks (length m.nodes) m room refl)
             (ap (λ n. Some (record { nodes = n; items = m.items; units = m.units })) (sym last));
       }
 
@@ -327,12 +340,12 @@ module _ (ports : ℕ) (visit : List PNode → Item → Tally → Option Tally) 
   view-told left (b ∷ bytes) h =
       holds-if _ (are_full m.nodes) _ _ (λ e. tt) (λ e.
       holds-if _ (eqb b 66) _ _
-        (λ f. holds-bind (λ y. (y.0 < 2 ^ 32) × AreBytes y.1) _ (varint_at bytes) _ (varint-holds bytes (and_true (ltb b 256) (list_all (λ b. ltb b 256) bytes) h).1) (λ offset q.
-          holds-bind (λ y. (y.0 < 2 ^ 32) × AreBytes y.1) _ (varint_at offset.1) _ (varint-holds offset.1 q.1) (λ count r.
-            holds-if _ (ltb size (offset.0 + count.0)) _ _ (λ g. tt) (λ g.
-              holds-bind AreBytes _ (flags_at m.flags left count.1) _ (flags-told m.flags left count.1 r.1) (λ last s.
-                rw e (view-made offset.0 count.0 last s (ltb-false size (offset.0 + count.0) g) (leb-false 100_000 (length m.nodes) e)))))))
-        (λ f. tt))
+      (λ f. holds-bind (λ y. (y.0 < 2 ^ 32) × AreBytes y.1) _ (varint_at bytes) _ (varint-holds bytes (and_true (ltb b 256) (list_all (λ b. ltb b 256) bytes) h).1) (λ offset q.
+      holds-bind (λ y. (y.0 < 2 ^ 32) × AreBytes y.1) _ (varint_at offset.1) _ (varint-holds offset.1 q.1) (λ count r.
+      holds-if _ (ltb size (offset.0 + count.0)) _ _ (λ g. tt) (λ g.
+      holds-bind AreBytes _ (flags_at m.flags left count.1) _ (flags-told m.flags left count.1 r.1) (λ last s.
+      rw e (view-made offset.0 count.0 last s (ltb-false size (offset.0 + count.0) g) (leb-false 100_000 (length m.nodes) e)))))))
+      (λ f. tt))
 
   with-told : (bytes : List ℕ) → AreBytes bytes → Holds (ValueTold ports visit met) (viewed_with of size m rest bytes)
   unfolding viewed_with

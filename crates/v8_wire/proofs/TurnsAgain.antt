@@ -57,14 +57,22 @@ module _ (ports : ℕ) (nodes : List PNode) (inner : ItemReader) (put : Item →
   array-one size before x xs t t' w met p e n a =
       let plain = and_true _ _ p.1 in
       let i = again x t t' w met plain.0 e n a in
-      let short : length before < size = omega (arith, p.0) in
-      (record {
-        piece = i.piece; more = i.more; met' = i.met'; puts = i.puts;
-        reads = λ tail none. rw (i.starts tail, i.front.no_hole, lt-ltb (length before) size short, i.reads_tag tail none) refl;
-        no_view = λ tail. NoView-tag (i.piece ++ tail) i.tag (i.body ++ tail) (i.starts tail) i.front.no_view;
-        longer = starts-longer i.piece i.tag i.body i.starts;
-        nodes_are = i.nodes_are; agrees = i.agrees; taken = i.taken; grows = i.grows;
-      }, (omega (arith, p.0, length-append before (x ∷ [])), plain.1))
+      let short : length before < size = omega (arith, p.0) in (
+        record {
+          piece = i.piece;
+          more = i.more;
+          met' = i.met';
+          puts = i.puts;
+          reads = λ tail none. rw (i.starts tail, i.front.no_hole, lt-ltb (length before) size short, i.reads_tag tail none) refl;
+          no_view = λ tail. NoView-tag (i.piece ++ tail) i.tag (i.body ++ tail) (i.starts tail) i.front.no_view;
+          longer = starts-longer i.piece i.tag i.body i.starts;
+          nodes_are = i.nodes_are;
+          agrees = i.agrees;
+          taken = i.taken;
+          grows = i.grows;
+        },
+        (omega (arith, p.0, length-append before (x ∷ [])), plain.1),
+      )
 
   pub array-end : (size : ℕ) (xs : List Item) (met : Met) (tail : List ℕ) → length xs ≡ size → size < 2 ^ 32
       → turn_at inner (Array size xs) met ((36 ∷ 0 ∷ varint size) ++ tail) ≡ Ok (End (kinds.Array xs), met, tail)
@@ -85,14 +93,22 @@ module _ (ports : ℕ) (nodes : List PNode) (inner : ItemReader) (put : Item →
   unfolding turn_at turn_with set_turn
   set-one before x xs t t' w met p e n a =
       let plain = and_true _ _ p in
-      let i = again x t t' w met plain.0 e n a in
-      (record {
-        piece = i.piece; more = i.more; met' = i.met'; puts = i.puts;
-        reads = λ tail none. rw (i.starts tail, i.front.no_set_end, i.reads_tag tail none) refl;
-        no_view = λ tail. NoView-tag (i.piece ++ tail) i.tag (i.body ++ tail) (i.starts tail) i.front.no_view;
-        longer = starts-longer i.piece i.tag i.body i.starts;
-        nodes_are = i.nodes_are; agrees = i.agrees; taken = i.taken; grows = i.grows;
-      }, plain.1)
+      let i = again x t t' w met plain.0 e n a in (
+        record {
+          piece = i.piece;
+          more = i.more;
+          met' = i.met';
+          puts = i.puts;
+          reads = λ tail none. rw (i.starts tail, i.front.no_set_end, i.reads_tag tail none) refl;
+          no_view = λ tail. NoView-tag (i.piece ++ tail) i.tag (i.body ++ tail) (i.starts tail) i.front.no_view;
+          longer = starts-longer i.piece i.tag i.body i.starts;
+          nodes_are = i.nodes_are;
+          agrees = i.agrees;
+          taken = i.taken;
+          grows = i.grows;
+        },
+        plain.1,
+      )
 
   pub set-end : (xs : List Item) (met : Met) (tail : List ℕ) → length xs < 2 ^ 32
       → turn_at inner (Set xs) met ((44 ∷ varint (length xs)) ++ tail) ≡ Ok (End (kinds.Set xs), met, tail)
@@ -115,22 +131,26 @@ module _ (ports : ℕ) (nodes : List PNode) (inner : ItemReader) (put : Item →
       let both = and_true _ _ plain.0 in
       let b = some_bind (visit x.0 t) (visit x.1) t' e in
       let k = again x.0 t b.0 w met both.0 b.1 n a in
-      let v = again x.1 b.0 t' (written (w.bytes ++ k.piece) b.0.nodes) k.met' both.1 b.2 refl k.agrees in
-      (record {
-        piece = k.piece ++ v.piece; more = k.more ++ v.more; met' = v.met';
-        puts = ap (put x.1) k.puts ∙ v.puts ∙ ap (λ (bytes : List ℕ). written bytes t'.nodes) (append_assoc w.bytes k.piece v.piece);
-        reads = λ tail none.
-            let starts : unpadded ((k.piece ++ v.piece) ++ tail) ≡ k.tag ∷ (k.body ++ (v.piece ++ tail)) = ap unpadded (append_assoc k.piece v.piece tail) ∙ k.starts (v.piece ++ tail) in
-            let behind : NoView (v.piece ++ tail) = NoView-tag (v.piece ++ tail) v.tag (v.body ++ tail) (v.starts tail) v.front.no_view in
-            rw (starts, k.front.no_map_end, k.reads_tag (v.piece ++ tail) behind, v.reads tail none) refl;
-        no_view = λ tail. subst NoView (sym (append_assoc k.piece v.piece tail))
-            (NoView-tag (k.piece ++ (v.piece ++ tail)) k.tag (k.body ++ (v.piece ++ tail)) (k.starts (v.piece ++ tail)) k.front.no_view);
-        longer = λ tail. omega (arith, starts-longer k.piece k.tag k.body k.starts (v.piece ++ tail), starts-longer v.piece v.tag v.body v.starts tail, ap length (append_assoc k.piece v.piece tail));
-        nodes_are = v.nodes_are ∙ ap (λ l. l ++ v.more) k.nodes_are ∙ append_assoc met.nodes k.more v.more;
-        agrees = v.agrees;
-        taken = v.taken ∙ ap (λ l. l ++ v.more) k.taken ∙ append_assoc (take t.nodes nodes) k.more v.more;
-        grows = omega (arith, k.grows, v.grows);
-      }, plain.1)
+      let v = again x.1 b.0 t' (written (w.bytes ++ k.piece) b.0.nodes) k.met' both.1 b.2 refl k.agrees in (
+        record {
+          piece = k.piece ++ v.piece;
+          more = k.more ++ v.more;
+          met' = v.met';
+          puts = ap (put x.1) k.puts ∙ v.puts ∙ ap (λ (bytes : List ℕ). written bytes t'.nodes) (append_assoc w.bytes k.piece v.piece);
+          reads = λ tail none.
+              let starts : unpadded ((k.piece ++ v.piece) ++ tail) ≡ k.tag ∷ (k.body ++ (v.piece ++ tail)) = ap unpadded (append_assoc k.piece v.piece tail) ∙ k.starts (v.piece ++ tail) in
+              let behind : NoView (v.piece ++ tail) = NoView-tag (v.piece ++ tail) v.tag (v.body ++ tail) (v.starts tail) v.front.no_view in
+              rw (starts, k.front.no_map_end, k.reads_tag (v.piece ++ tail) behind, v.reads tail none) refl;
+          no_view = λ tail. subst NoView (sym (append_assoc k.piece v.piece tail))
+              (NoView-tag (k.piece ++ (v.piece ++ tail)) k.tag (k.body ++ (v.piece ++ tail)) (k.starts (v.piece ++ tail)) k.front.no_view);
+          longer = λ tail. omega (arith, starts-longer k.piece k.tag k.body k.starts (v.piece ++ tail), starts-longer v.piece v.tag v.body v.starts tail, ap length (append_assoc k.piece v.piece tail));
+          nodes_are = v.nodes_are ∙ ap (λ l. l ++ v.more) k.nodes_are ∙ append_assoc met.nodes k.more v.more;
+          agrees = v.agrees;
+          taken = v.taken ∙ ap (λ l. l ++ v.more) k.taken ∙ append_assoc (take t.nodes nodes) k.more v.more;
+          grows = omega (arith, k.grows, v.grows);
+        },
+        plain.1,
+      )
 
   pub map-end : (xs : List (Item × Item)) (met : Met) (tail : List ℕ) → 2 * length xs < 2 ^ 32
       → turn_at inner (Map xs) met ((58 ∷ varint (2 * length xs)) ++ tail) ≡ Ok (End (kinds.Map xs), met, tail)

@@ -31,9 +31,9 @@ checked-walk parcel h = ends-at (length parcel.nodes) (all_met parcel) h
 fit-nodes : (ports : ℕ) (parcel : Parcel) → IsPlain parcel → IsTrue (ports_below ports parcel) → AreFit ports parcel.nodes
 unfolding is_plain ports_below
 fit-nodes ports parcel plain below = record {
-    plain = λ i node found. all-at (λ node. list_all is_plain_item (items_of node)) parcel.nodes i node (and_true (is_plain_item parcel.root) (list_all (λ node. list_all is_plain_item (items_of node)) parcel.nodes) plain).1 found;
-    came = λ i node found. all-at (is_port_below ports) parcel.nodes i node below found;
-  }
+  plain = λ i node found. all-at (λ node. list_all is_plain_item (items_of node)) parcel.nodes i node (and_true (is_plain_item parcel.root) (list_all (λ node. list_all is_plain_item (items_of node)) parcel.nodes) plain).1 found;
+  came = λ i node found. all-at (is_port_below ports) parcel.nodes i node below found;
+}
 
 plain-root : (parcel : Parcel) → IsPlain parcel → is_plain_item parcel.root ≡ true
 unfolding is_plain
@@ -42,9 +42,16 @@ plain-root parcel plain = (and_true (is_plain_item parcel.root) (list_all (λ no
 -- at the start nothing is met
 starts-agree : (ports : ℕ) (nodes : List PNode) → Agrees ports nodes (fresh ports true) nothing_met
 starts-agree ports nodes = record {
-    ports_are = refl; flags_are = refl; count = refl; few = omega arith; items_are = refl; items_few = omega arith; units_are = refl;
-    sizes_are = refl; small = λ i size lt e. absurd (omega arith);
-  }
+  ports_are = refl;
+  flags_are = refl;
+  count = refl;
+  few = omega arith;
+  items_are = refl;
+  items_few = omega arith;
+  units_are = refl;
+  sizes_are = refl;
+  small = λ i size lt e. absurd (omega arith);
+}
 
 -- what stands behind the version is the root
 version-root : (ports : ℕ) (bytes : List ℕ) → parcel_at ports (255 ∷ 15 ∷ bytes) ≡ root_at ports true bytes
@@ -56,7 +63,7 @@ unfolding all_met spelled root_at alone
 parcel-again parcel ports checked plain below =
     let walk = checked-walk parcel checked in
     let i = item-again ports parcel.nodes (fit-nodes ports parcel plain below) 1_001 parcel.root nothing_met walk.0 (written (255 ∷ 15 ∷ []) 0) (fresh ports true)
-      (plain-root parcel plain) walk.1 refl (starts-agree ports parcel.nodes) in
+    (plain-root parcel plain) walk.1 refl (starts-agree ports parcel.nodes) in
     let bytes : spelled parcel ≡ 255 ∷ 15 ∷ i.piece = ap (λ w. w.bytes) i.puts in
     let nodes_are : i.met'.nodes ≡ parcel.nodes = i.nodes_are ∙ sym i.taken ∙ ap (λ n. take n parcel.nodes) walk.2 ∙ take_all (length parcel.nodes) parcel.nodes (omega arith) in
     ap (parcel_at ports) bytes ∙ version-root ports i.piece

@@ -11,11 +11,9 @@ ghost use Rattle.v8_wire.specs.Spelling.{spelled};
 pub fn spellings_are_read()
     ensures { (parcel : Parcel) (ports : ℕ) → IsChecked parcel → IsPlain parcel → IsTrue (ports_below ports parcel)
         → parcel_at ports (spelled parcel) ≡ Ok parcel }
-{
-}
+{}
 
 /// Bytes read as at most one parcel.
 pub fn bytes_read_once()
     ensures { (bytes : List ℕ) (ports : ℕ) (a b : Parcel) → parcel_at ports bytes ≡ Ok a → parcel_at ports bytes ≡ Ok b → a ≡ b }
-{
-}
+{}

@@ -1,5 +1,7 @@
 //! A parcel, from its bytes.
-ghost use Rattle.std.specs.Prelude.{◌≡◌, ◌-◌, ◌<◌, ◌≤◌, ◌^◌, length};
+ghost use Rattle.std.specs.Prelude.{◌≡◌, ◌-◌, ◌<◌, ◌≤◌, ◌^◌, length, IfOk, IsTrue};
+ghost use Rattle.parcel.specs.Checked.{IsChecked};
+ghost use Rattle.parcel.specs.Plain.{IsPlain, ports_below};
 ghost use Rattle.v8_wire.specs.Faults.{Gives};
 ghost use Rattle.v8_wire.specs.Item.{alone, root_at, version_at, parcel_at};
 ghost use Rattle.v8_wire.specs.Takes.{Takes};
@@ -76,10 +78,14 @@ fn parcel_of(alloc: Global, bytes: &[u8], ports: u32) -> Result<Parcel, Stop>
 /// Any spelling that V8 reads is taken, within the limits of a copy: 100,000 nodes, 1,000,000 items, 16,777,216 units of
 /// text (a buffer's bytes counted as units), nesting 1,000, 1,048,576 units in one string. `WireFault::At` comes exactly
 /// where the bytes spell no parcel, with the place and the kind of the first fault from the left; `WireFault::Memory`
-/// where memory ran out. The cost is linear in the bytes, and nothing is reserved by a length that was read but what the
+/// where memory ran out. The parcel is checked, has no functions and promises, and its ports' places are below `ports`.
+/// The cost is linear in the bytes, and nothing is reserved by a length that was read but what the
 /// bytes behind it fill.
 pub fn take(alloc: Global, bytes: &[u8], ports: u32) -> Result<Parcel, WireFault>
     ensures exact { Takes (length bytes.now) result (parcel_at ports bytes.now) }
+    ensures checked { IfOk result IsChecked }
+    ensures plain { IfOk result IsPlain }
+    ensures ports { IfOk result (λ parcel. IsTrue (ports_below ports parcel)) }
 {
     match parcel_of(alloc, bytes, ports) {
         Ok(parcel) => Ok(parcel),
