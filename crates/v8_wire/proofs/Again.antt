@@ -1,16 +1,14 @@
 -- What it means that what was written is read again.
-use Rattle.std.proofs.Common.{◌⊎◌, ◌≡◌, ◌≢◌, ℕ, zero, suc, ◌+◌, ◌<◌, ◌≤◌, Bool, true, false, cond, List, [], ◌∷◌, ◌++◌, length, map, take, Option, Some, None, Ok, refl, ap, sym, ◌∙◌, subst, append_assoc, arith, inl, inr, eqb}
+use Rattle.std.proofs.Common.{◌≡◌, ℕ, ◌+◌, ◌<◌, ◌≤◌, Bool, true, false, List, [], ◌∷◌, length, map, take, Option, Some, None, Ok, refl, ap, sym, ◌∙◌, subst, inl, inr, eqb}
 use Rattle.std.specs.Prelude.{slice_get}
-use Rattle.std.proofs.lemmas.Bool.{le-ltb, lt-ltb, ltb-true, ltb-false, cases_lt, eqb-true}
+use Rattle.std.proofs.lemmas.Bool.{le-ltb, lt-ltb, cases_lt, eqb-true}
 use Rattle.std.proofs.lemmas.Bool.Decides.{leb_tells}
-use borrow.Author.Tests.{leb-true}
 use Rattle.parcel.specs.Checked.{with_item, with_node, with_units, only_if, numbered}
 use Rattle.parcel.specs.Checked as checked
 use Rattle.parcel.specs.declared.parcel.Item.{Item}
 use Rattle.parcel.specs.declared.parcel.Item.TheVariants.{Node}
 use Rattle.parcel.specs.declared.parcel.PNode.{PNode}
 use Rattle.parcel.specs.declared.tally.Tally.{Tally}
-use Rattle.v8_wire.specs.declared.fault.Fault.{Fault}
 use Rattle.v8_wire.specs.declared.met.Met.{Met}
 use Rattle.v8_wire.specs.Leaf.{unpadded}
 use Rattle.v8_wire.specs.Item.{buffer_size, viewed_with, viewed_if, viewed_at}

@@ -1,36 +1,34 @@
 -- Properties that were written are read again.
-use Rattle.std.proofs.Common.{◌⊎◌, ◌≡◌, ◌≢◌, ℕ, zero, suc, ◌+◌, ◌*◌, ◌<◌, ◌≤◌, ◌^◌, ℤ, pos, Bool, true, false, not, cond, ◌&&◌, ◌||◌, List, [], ◌∷◌, ◌++◌, length, map, take, get_or, Option, Some, None, Ok, refl, ap, sym, ◌∙◌, subst, append_assoc, arith, inl, inr, eqb, ltb, leb, add-one, decimal}
-use Rattle.std.specs.Prelude.{nat_eq, is_none, if◌then◌else◌}
+use Rattle.std.proofs.Common.{◌⊎◌, ◌≡◌, ℕ, ◌<◌, ◌≤◌, ◌^◌, pos, Bool, true, false, not, ◌||◌, List, [], ◌∷◌, ◌++◌, length, map, take, Option, Some, None, Ok, refl, ap, sym, ◌∙◌, subst, append_assoc, arith, inl, inr, eqb, add-one}
+use Rattle.std.specs.Prelude.{nat_eq}
 use Rattle.std.specs.List.{list_all, list_any}
 use Rattle.std.specs.Fmt.{signed_decimal}
 use Rattle.std.specs.Cmp.Lexicographic.{pointwise}
-use Rattle.std.proofs.lemmas.Bool.{le-ltb, lt-ltb, ltb-true, ltb-false, eq-eqb, ne_eqb}
+use Rattle.std.proofs.lemmas.Bool.{eq-eqb, ne_eqb}
 use Rattle.std.proofs.lemmas.Bool.Decides.{eqb_tells}
 use borrow.Author.Tests.{leb-true, le-leb}
-use Rattle.std.proofs.lemmas.List.{append-nil, length-append, map-append}
+use Rattle.std.proofs.lemmas.List.{map-append}
 use Rattle.wl_text.specs.Number.{index_of, leads_with_zero}
 use Rattle.wl_text.proofs.Numbers.{index_of_some}
 use Rattle.parcel.specs.Keys.{index_after, may_come, are_in_order, are_distinct}
-use Rattle.parcel.specs.Checked.{visit_property, with_text, with_units, only_if, is_text, is_safe}
+use Rattle.parcel.specs.Checked.{visit_property, with_text, with_units, only_if, is_text}
 use Rattle.parcel.specs.Plain.{is_plain_item}
 use Rattle.parcel.specs.declared.parcel.Item.{Item}
 use Rattle.parcel.specs.declared.parcel.PNode.{PNode}
 use Rattle.parcel.specs.declared.parcel.PNode.TheVariants as kinds
 use Rattle.parcel.specs.declared.tally.Tally.{Tally}
-use Rattle.v8_wire.specs.declared.fault.Fault.{Fault}
 use Rattle.v8_wire.specs.declared.met.Met.{Met}
 use Rattle.v8_wire.specs.declared.open.Open.TheVariants.{Object}
 use Rattle.v8_wire.specs.declared.open.Turn.TheVariants.{More, End}
-use Rattle.v8_wire.specs.Faults.{◌>>=◌}
 use Rattle.v8_wire.specs.Leaf.{unpadded}
 use Rattle.v8_wire.specs.Text.{string_at}
-use Rattle.v8_wire.specs.Contents.{ItemReader, may_be_index, index_key, text_key, is_new, new_key, key_at, turn_at, turn_with, object_turn}
-use Rattle.v8_wire.specs.Spelling.{Written, written, varint, key, key_or, number, string, put_property, with_bytes}
+use Rattle.v8_wire.specs.Contents.{ItemReader, may_be_index, index_key, text_key, new_key, key_at, turn_at, turn_with, object_turn}
+use Rattle.v8_wire.specs.Spelling.{Written, written, varint, key, put_property, with_bytes}
 use Rattle.v8_wire.proofs.Again.{some_bind, only_if-is, with_units-is, Agrees, NoView, NoView-tag}
 use Rattle.v8_wire.proofs.NumbersAgain.{number-again}
 use Rattle.v8_wire.proofs.StringsAgain.{string-again}
 use Rattle.v8_wire.proofs.LeavesAgain.{and_true, with_counted, counts, counted-agrees}
-use Rattle.v8_wire.proofs.ListsAgain.{ItemAgain, TurnAgain}
+use Rattle.v8_wire.proofs.ListsAgain.{TurnAgain}
 use Rattle.v8_wire.proofs.TurnsAgain.{InnerAgain, starts-longer, count-again}
 
 -- ---- array indices as texts

@@ -1,14 +1,12 @@
 -- A value without items that was written is read again.
-use Rattle.std.proofs.Common.{◌⊎◌, ◌≡◌, ◌≢◌, ℕ, zero, suc, ◌+◌, ◌*◌, ◌<◌, ◌≤◌, ◌^◌, Bool, true, false, cond, List, [], ◌∷◌, ◌++◌, length, map, take, drop, get_or, Option, Some, None, Ok, ℤ, ◌&&◌, refl, ap, sym, ◌∙◌, subst, append_assoc, arith, inl, inr, eqb, add-one}
+use Rattle.std.proofs.Common.{◌⊎◌, ◌≡◌, ℕ, ◌+◌, ◌<◌, ◌≤◌, Bool, true, false, List, [], ◌∷◌, ◌++◌, length, take, Option, Some, None, Ok, ℤ, ◌&&◌, refl, ap, sym, ◌∙◌, subst, append_assoc, arith, inl, inr, add-one}
 use Rattle.std.specs.Prelude.{slice_get}
-use Rattle.std.specs.List.{list_all}
 use Rattle.std.proofs.Math.Seq.{take-suc}
-use Rattle.std.proofs.lemmas.Bool.{le-ltb, lt-ltb, ltb-true, ltb-false, cases_lt, eqb-true}
+use Rattle.std.proofs.lemmas.Bool.{le-ltb, lt-ltb, ltb-true, cases_lt}
 use Rattle.std.proofs.lemmas.List.{append-nil, map-append, length-append}
 use Rattle.std.proofs.lemmas.Option.{slice_get_within, get_or_from_slice_get}
 use borrow.Author.Tests.{leb-true, lt-leb}
-use Rattle.parcel.specs.Checked.{with_text, with_units, with_contents, with_message, only_if, numbered, is_text, is_contents, is_safe, is_word, value_met, node_met, contents_met}
-use Rattle.parcel.specs.Plain.{is_port_below}
+use Rattle.parcel.specs.Checked.{with_text, with_units, with_contents, with_message, only_if, is_text, is_contents, is_safe, is_word}
 use Rattle.parcel.specs.declared.parcel.Item.{Item}
 use Rattle.parcel.specs.declared.parcel.Item.TheVariants as items
 use Rattle.parcel.specs.declared.parcel.PNode.{PNode}
@@ -16,20 +14,18 @@ use Rattle.parcel.specs.declared.parcel.PNode.TheVariants as kinds
 use Rattle.parcel.specs.declared.parcel.ErrorKind.{ErrorKind}
 use Rattle.parcel.specs.declared.parcel.ErrorKind.TheVariants.{Error, EvalError, RangeError, ReferenceError, SyntaxError, TypeError, URIError}
 use Rattle.parcel.specs.declared.tally.Tally.{Tally}
-use Rattle.v8_wire.specs.declared.fault.Fault.{Fault}
 use Rattle.v8_wire.specs.declared.met.Met.{Met}
 use Rattle.v8_wire.specs.Faults.{◌>>=◌}
 use Rattle.v8_wire.specs.Met.{are_full}
 use Rattle.v8_wire.specs.Met as met_words
-use Rattle.v8_wire.specs.Number.{varint_at, number_at}
-use Rattle.v8_wire.specs.Text.{string_at}
-use Rattle.v8_wire.specs.Leaf.{unpadded, is_composite_tag, is_text_tag, leaf_at, counted_text_at, placed_at, node_at, port_at, buffer_at, error_at, reference_at, kind_at, message_at, stack_at, end_at, text_at, text_with}
+use Rattle.v8_wire.specs.Number.{number_at}
+use Rattle.v8_wire.specs.Leaf.{unpadded, is_composite_tag, is_text_tag, leaf_at, counted_text_at, node_at, port_at, buffer_at, error_at, kind_at, message_at, stack_at, end_at, text_at, text_with}
 use Rattle.v8_wire.specs.Contents.{ItemReader}
-use Rattle.v8_wire.specs.Item.{buffer_size, viewed_at, entered_at}
-use Rattle.v8_wire.specs.Spelling.{Written, written, varint, number, string, buffer, kind_tag, message, error, reference, put_value, put_contents}
-use Rattle.v8_wire.proofs.Again.{some_bind, only_if-is, with_units-is, numbered-is, sizes, Agrees, NoView, NoView-tag, viewed_at-none, IsFront}
-use Rattle.v8_wire.proofs.NumbersAgain.{varint-again, NumberAgain, number-again}
-use Rattle.v8_wire.proofs.StringsAgain.{bytes-again, StringAgain, string-again}
+use Rattle.v8_wire.specs.Item.{buffer_size, entered_at}
+use Rattle.v8_wire.specs.Spelling.{Written, written, varint, number, string, kind_tag, error, put_value, put_contents}
+use Rattle.v8_wire.proofs.Again.{some_bind, only_if-is, with_units-is, sizes, Agrees, NoView, viewed_at-none, IsFront}
+use Rattle.v8_wire.proofs.NumbersAgain.{varint-again, number-again}
+use Rattle.v8_wire.proofs.StringsAgain.{bytes-again, string-again}
 
 pub and_true : (a b : Bool) → (◌&&◌ a b) ≡ true → (a ≡ true) × (b ≡ true)
 and_true true b h = (refl, h)

@@ -1,15 +1,13 @@
 -- What stands in a node with items is read again, turn after turn.
-use Rattle.std.proofs.Common.{◌⊎◌, ◌≡◌, ◌≢◌, ℕ, zero, suc, ◌+◌, ◌*◌, ◌<◌, ◌≤◌, ◌^◌, Bool, true, false, cond, List, [], ◌∷◌, ◌++◌, length, map, take, Option, Some, None, Ok, refl, ap, sym, ◌∙◌, subst, append_assoc, arith, inl, inr, eqb, ltb, leb, add-one}
-use Rattle.std.proofs.lemmas.List.{append-nil, length-append}
+use Rattle.std.proofs.Common.{◌≡◌, ℕ, ◌+◌, ◌<◌, ◌≤◌, List, [], ◌∷◌, ◌++◌, length, take, Option, Some, Ok, refl, ap, sym, ◌∙◌, subst, append_assoc, arith}
+use Rattle.std.proofs.lemmas.List.{append-nil}
 use Rattle.parcel.specs.Checked.{in_turn}
 use Rattle.parcel.specs.declared.parcel.Item.{Item}
 use Rattle.parcel.specs.declared.parcel.PNode.{PNode}
 use Rattle.parcel.specs.declared.tally.Tally.{Tally}
-use Rattle.v8_wire.specs.declared.fault.Fault.{Fault}
 use Rattle.v8_wire.specs.declared.met.Met.{Met}
 use Rattle.v8_wire.specs.declared.open.Open.{Open}
-use Rattle.v8_wire.specs.declared.open.Turn.{Turn}
-use Rattle.v8_wire.specs.declared.open.Turn.TheVariants.{More, End}
+use Rattle.v8_wire.specs.declared.open.Turn.TheVariants.{More}
 use Rattle.v8_wire.specs.Leaf.{unpadded}
 use Rattle.v8_wire.specs.Contents.{ItemReader, turn_at, contents_at}
 use Rattle.v8_wire.specs.Spelling.{Written, written, put_all}

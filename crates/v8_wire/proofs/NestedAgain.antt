@@ -1,14 +1,14 @@
 -- A node with items that was written is read again, and so is any item.
-use Rattle.std.proofs.Common.{◌⊎◌, ◌≡◌, ◌≢◌, ℕ, zero, suc, ◌+◌, ◌*◌, ◌<◌, ◌≤◌, ◌^◌, Bool, true, false, cond, ◌&&◌, List, [], ◌∷◌, ◌++◌, length, map, take, Option, Some, None, Result, Ok, Err, refl, ap, sym, ◌∙◌, subst, append_assoc, arith, inl, inr, eqb, ltb, leb, add-one}
-use Rattle.std.specs.Prelude.{slice_get, slice_set, IsTrue}
+use Rattle.std.proofs.Common.{◌≡◌, ℕ, zero, suc, ◌+◌, ◌*◌, ◌<◌, ◌≤◌, ◌^◌, Bool, true, false, cond, ◌&&◌, List, [], ◌∷◌, ◌++◌, length, map, take, Option, Some, None, Result, Ok, Err, refl, ap, sym, ◌∙◌, subst, append_assoc, arith, inl, inr, eqb, ltb, leb}
+use Rattle.std.specs.Prelude.{slice_get, slice_set}
 use Rattle.std.specs.List.{list_all, flat_map}
 use Rattle.std.proofs.Math.Seq.{set-append_seam}
-use Rattle.std.proofs.lemmas.Bool.{le-ltb, lt-ltb, ltb-true, cases_lt, eqb-true}
-use Rattle.std.proofs.lemmas.List.{append-nil, length-append, map-append}
-use borrow.Author.Tests.{leb-true, lt-leb}
+use Rattle.std.proofs.lemmas.Bool.{le-ltb, lt-ltb, ltb-true, cases_lt}
+use Rattle.std.proofs.lemmas.List.{length-append, map-append}
+use borrow.Author.Tests.{lt-leb}
 use Rattle.parcel.specs.Checked as checked
 use Rattle.parcel.specs.Checked.{in_turn, visit_property, visit_entry, contents_met, node_met, value_met, item_met, with_item, only_if, numbered}
-use Rattle.parcel.specs.Keys.{are_keys, are_in_order, are_distinct}
+use Rattle.parcel.specs.Keys.{are_keys}
 use Rattle.parcel.specs.Plain.{is_plain_item, items_of, is_port_below}
 use Rattle.parcel.specs.declared.parcel.Item.{Item}
 use Rattle.parcel.specs.declared.parcel.Item.TheVariants as items
@@ -19,19 +19,17 @@ use Rattle.v8_wire.specs.declared.fault.Fault.{Fault}
 use Rattle.v8_wire.specs.declared.met.Met.{Met}
 use Rattle.v8_wire.specs.declared.open.Open.{Open}
 use Rattle.v8_wire.specs.declared.open.Open.TheVariants.{Object, Array, Map, Set}
-use Rattle.v8_wire.specs.declared.open.Turn.{Turn}
-use Rattle.v8_wire.specs.declared.open.Turn.TheVariants.{More, End}
+use Rattle.v8_wire.specs.declared.open.Turn.TheVariants.{End}
 use Rattle.v8_wire.specs.Faults.{◌>>=◌}
-use Rattle.v8_wire.specs.Met.{are_full}
 use Rattle.v8_wire.specs.Leaf.{unpadded, is_composite_tag}
-use Rattle.v8_wire.specs.Contents.{ItemReader, opened_at, turn_at, turned, contents_at}
+use Rattle.v8_wire.specs.Contents.{ItemReader, opened_at, turn_at, contents_at}
 use Rattle.v8_wire.specs.Item.{buffer_size, composite_at, entered_at, item_at}
-use Rattle.v8_wire.specs.Spelling.{Written, written, with_bytes, varint, put_all, put_property, put_entry, put_contents, put_node, put_value, put_item}
-use Rattle.v8_wire.proofs.Again.{some_bind, only_if-is, with_item-is, numbered-is, sizes, Agrees, NoView, NoView-tag, IsFront}
+use Rattle.v8_wire.specs.Spelling.{Written, written, with_bytes, varint, put_property, put_entry, put_contents, put_node, put_value, put_item}
+use Rattle.v8_wire.proofs.Again.{some_bind, only_if-is, with_item-is, numbered-is, sizes, Agrees, NoView-tag, IsFront}
 use Rattle.v8_wire.proofs.NumbersAgain.{varint-again}
-use Rattle.v8_wire.proofs.LeavesAgain.{and_true, ValueAgain, BodyAgain, node-agrees, not_full, take-next, undefined-again, null-again, bool-again, num-again, str-again, error-body, port-body, buffer-body}
+use Rattle.v8_wire.proofs.LeavesAgain.{and_true, ValueAgain, node-agrees, not_full, take-next, undefined-again, null-again, bool-again, num-again, str-again, error-body, port-body, buffer-body}
 use Rattle.v8_wire.proofs.NodesAgain.{reference-again, first-again, view-again}
-use Rattle.v8_wire.proofs.ListsAgain.{ItemAgain, TurnAgain, RestAgain, rest-again}
+use Rattle.v8_wire.proofs.ListsAgain.{RestAgain, rest-again}
 use Rattle.v8_wire.proofs.TurnsAgain.{InnerAgain, IsArray, array-one, array-end, IsSet, set-one, set-end, is_plain_entry, IsMap, map-one, map-end}
 use Rattle.v8_wire.proofs.KeysAgain.{keys, least_of, IsObject, object-one, object-end}
 use Rattle.v8_wire.proofs.Turns.{contents_at-turn}

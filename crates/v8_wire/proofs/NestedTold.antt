@@ -1,14 +1,14 @@
 -- What was read of nodes with items is walked.
-use Rattle.std.proofs.Common.{◌⊎◌, ◌≡◌, ◌≢◌, ℕ, zero, suc, ◌+◌, ◌*◌, ◌<◌, ◌≤◌, ◌^◌, ℤ, pos, negsuc, Bool, true, false, cond, not, ◌&&◌, ◌||◌, List, [], ◌∷◌, ◌++◌, length, map, Option, Some, None, Result, Ok, Err, refl, ap, sym, ◌∙◌, subst, append_assoc, arith, inl, inr, eqb, ltb, leb, add-one}
-use Rattle.std.specs.Prelude.{slice_get, slice_set, nat_eq, is_none, IsTrue}
+use Rattle.std.proofs.Common.{◌≡◌, ℕ, zero, suc, ◌+◌, ◌*◌, ◌<◌, ◌≤◌, ◌^◌, ℤ, pos, negsuc, Bool, true, false, cond, not, ◌&&◌, List, [], ◌∷◌, ◌++◌, length, map, Option, Some, None, Result, Ok, Err, refl, ap, sym, ◌∙◌, subst, append_assoc, arith, inl, inr, eqb, ltb, leb, add-one}
+use Rattle.std.specs.Prelude.{slice_get, slice_set, nat_eq, is_none}
 use Rattle.std.specs.List.{list_all, list_any, flat_map}
 use Rattle.std.specs.Cmp.Lexicographic.{pointwise}
 use Rattle.std.specs.Fmt.{signed_decimal}
 use Rattle.std.proofs.Math.Seq.{set-append_seam}
-use Rattle.std.proofs.lemmas.Bool.{le-ltb, lt-ltb, ltb-true, ltb-false, eq-eqb, eqb-true, cases_lt}
+use Rattle.std.proofs.lemmas.Bool.{le-ltb, lt-ltb, cases_lt}
 use Rattle.std.proofs.lemmas.List.{append-nil, length-append, map-append}
 use Rattle.std.proofs.lemmas.Option.{slice_get_within}
-use borrow.Author.Tests.{leb-true, le-leb, lt-leb, leb-false}
+use borrow.Author.Tests.{leb-true, le-leb, leb-false}
 use Rattle.std.specs.Str.{all_ascii_digits}
 use Rattle.std.specs.Str.Parse.{digits_value}
 use Rattle.std.specs.Char.{is_ascii_digit}
@@ -17,9 +17,8 @@ use Rattle.std.proofs.lemmas.Str.Parse.{IsNumeralModel, numerals_by_value, tells
 use Rattle.wl_text.specs.Number.{index_of, natural_of, leads_with_zero, IsIndexOf}
 use Rattle.wl_text.proofs.Numbers.{index_of_some, index_of_none, index_of_led}
 use Rattle.parcel.specs.Keys.{index_after, may_come, are_in_order, are_distinct, are_keys}
-use Rattle.parcel.specs.Checked as checked
-use Rattle.parcel.specs.Checked.{in_turn, visit_property, visit_entry, value_met, node_met, contents_met, item_met, with_item, with_text, only_if, numbered, is_text, is_safe}
-use Rattle.parcel.specs.Plain.{is_plain_item, items_of, is_port_below}
+use Rattle.parcel.specs.Checked.{in_turn, visit_property, visit_entry, value_met, node_met, contents_met, item_met, numbered, is_text, is_safe}
+use Rattle.parcel.specs.Plain.{is_plain_item, items_of}
 use Rattle.parcel.specs.declared.parcel.Item.{Item}
 use Rattle.parcel.specs.declared.parcel.Item.TheVariants as items
 use Rattle.parcel.specs.declared.parcel.PNode.{PNode}
@@ -42,7 +41,7 @@ use Rattle.v8_wire.specs.Leaf.{unpadded, is_text_tag, is_composite_tag, refused,
 use Rattle.v8_wire.specs.Contents.{ItemReader, count_at, opened_at, index_key, text_key, is_new, new_key, may_be_index, may_be_next, is_index, key_at, object_turn, array_turn, sparse_turn, map_turn, set_turn, turn_with, turn_at, turned, contents_at}
 use Rattle.v8_wire.specs.Item.{buffer_size, composite_at, entered_at, item_at, refused_at}
 use Rattle.v8_wire.proofs.KeysAgain.{or_false, pointwise-sym}
-use Rattle.v8_wire.proofs.Again.{some_bind, only_if-is, with_item-is}
+use Rattle.v8_wire.proofs.Again.{some_bind}
 use Rattle.v8_wire.proofs.LeavesAgain.{and_true}
 use Rattle.v8_wire.proofs.Holds.{Holds, holds-bind, holds-if, AreBytes, varint-holds, number-holds, string-holds}
 use Rattle.v8_wire.proofs.Told.{tally, Buffers, Continues, fits, Grew, ValueTold, bytes-unpadded, Counted, counted-holds, text-walks, numbered-walks, slice_get-front, slice_get-seam, fit-append, leaf-told, viewed-told}

@@ -1,9 +1,9 @@
 -- A node without items that was written is read again.
-use Rattle.std.proofs.Common.{◌⊎◌, ◌≡◌, ◌≢◌, ℕ, zero, suc, ◌+◌, ◌*◌, ◌<◌, ◌≤◌, ◌^◌, Bool, true, false, cond, List, [], ◌∷◌, ◌++◌, length, map, take, Option, Some, None, Ok, refl, ap, sym, ◌∙◌, subst, append_assoc, arith, inl, inr, eqb, ltb, leb, add-one}
+use Rattle.std.proofs.Common.{◌⊎◌, ◌≡◌, ℕ, zero, suc, ◌+◌, ◌<◌, ◌≤◌, false, cond, List, [], ◌∷◌, ◌++◌, length, take, Option, Some, None, Ok, refl, ap, sym, ◌∙◌, subst, append_assoc, arith, inl, inr, ltb, leb}
 use Rattle.std.specs.Prelude.{slice_get}
-use Rattle.std.proofs.lemmas.Bool.{le-ltb, lt-ltb, ltb-true, ltb-false, cases_lt, eqb-true}
-use Rattle.std.proofs.lemmas.List.{append-nil, map-append, length-append, append_cancel_left}
-use borrow.Author.Tests.{leb-true, lt-leb}
+use Rattle.std.proofs.lemmas.Bool.{le-ltb, lt-ltb, cases_lt}
+use Rattle.std.proofs.lemmas.List.{append-nil, append_cancel_left}
+use borrow.Author.Tests.{leb-true}
 use Rattle.parcel.specs.Checked as checked
 use Rattle.parcel.specs.Checked.{only_if, numbered, with_contents, node_met, contents_met, buffer_met}
 use Rattle.parcel.specs.declared.parcel.Item.{Item}
@@ -11,15 +11,12 @@ use Rattle.parcel.specs.declared.parcel.Item.TheVariants as items
 use Rattle.parcel.specs.declared.parcel.PNode.{PNode}
 use Rattle.parcel.specs.declared.parcel.PNode.TheVariants as kinds
 use Rattle.parcel.specs.declared.tally.Tally.{Tally}
-use Rattle.v8_wire.specs.declared.fault.Fault.{Fault}
 use Rattle.v8_wire.specs.declared.met.Met.{Met}
-use Rattle.v8_wire.specs.Faults.{◌>>=◌}
-use Rattle.v8_wire.specs.Met.{are_full}
-use Rattle.v8_wire.specs.Leaf.{unpadded, is_composite_tag, leaf_at, placed_at, node_at, reference_at}
+use Rattle.v8_wire.specs.Leaf.{unpadded, is_composite_tag, leaf_at, placed_at, reference_at}
 use Rattle.v8_wire.specs.Contents.{ItemReader}
-use Rattle.v8_wire.specs.Item.{buffer_size, viewed_at, viewed_if, viewed_with, view_at, flags_at, entered_at}
+use Rattle.v8_wire.specs.Item.{buffer_size, viewed_at, viewed_with, view_at, flags_at, entered_at}
 use Rattle.v8_wire.specs.Spelling.{Written, written, varint, buffer, reference, put_value, put_contents, put_node, put_buffer}
-use Rattle.v8_wire.proofs.Again.{some_bind, only_if-is, numbered-is, sizes, Agrees, NoView, viewed_at-none, IsFront}
+use Rattle.v8_wire.proofs.Again.{some_bind, only_if-is, numbered-is, sizes, Agrees, viewed_at-none, IsFront}
 use Rattle.v8_wire.proofs.NumbersAgain.{varint-again}
 use Rattle.v8_wire.proofs.LeavesAgain.{ValueAgain, BodyAgain, buffer-body, node-agrees, not_full, take-next}
 

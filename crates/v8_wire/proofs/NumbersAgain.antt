@@ -1,5 +1,5 @@
 -- A number that was written is read again, whatever follows it.
-use Rattle.std.proofs.Common.{◌⊎◌, ◌≡◌, ◌≢◌, ℕ, zero, suc, ◌+◌, ◌-◌, ◌*◌, ◌/◌, ◌%◌, ◌<◌, ◌≤◌, ◌^◌, ℤ, pos, negsuc, Bool, true, false, List, [], ◌∷◌, ◌++◌, length, take, drop, Some, Ok, refl, ap, sym, ◌∙◌, subst, append_assoc, arith, inl, inr, add-one, lit<, lit≤}
+use Rattle.std.proofs.Common.{◌⊎◌, ◌≡◌, ◌≢◌, ℕ, zero, suc, ◌+◌, ◌-◌, ◌*◌, ◌/◌, ◌%◌, ◌<◌, ◌≤◌, ◌^◌, ℤ, pos, negsuc, Bool, true, false, List, ◌∷◌, ◌++◌, length, Some, Ok, refl, ap, ◌∙◌, arith, inl, inr, add-one}
 use Rattle.std.specs.Int.{w64, to_le_bytes, from_le_bytes}
 use Rattle.std.proofs.Math.Nat.{mul-div_cancel, mul-mod_left, pow-succ'}
 use Rattle.std.proofs.lemmas.Bool.{le-ltb, lt-ltb, ltb-true, ltb-false, ne_eqb, eq-eqb, cases_lt}
@@ -7,8 +7,6 @@ use borrow.Author.Tests.{leb-true}
 use Rattle.std.proofs.lemmas.List.{take_at, drop_at, length-append}
 use Rattle.std.proofs.lemmas.Nat.{from_le_bytes-to_le_bytes_8}
 use Rattle.parcel.specs.Checked.{is_safe}
-use Rattle.v8_wire.specs.declared.fault.Fault.{Fault}
-use Rattle.v8_wire.specs.Faults.{◌>>=◌}
 use Rattle.v8_wire.specs.Number.{groups_at, varint_at, unzigzag, bound, magnitude_of, whole_of, double_at, number_at}
 use Rattle.v8_wire.specs.Spelling.{groups, varint, zigzag, is_short, doubled, magnitude_word, double_word, number}
 

@@ -1,15 +1,11 @@
 -- A string that was written is read again, whatever follows it.
-use Rattle.std.proofs.Common.{◌⊎◌, ◌≡◌, ◌≢◌, ℕ, zero, suc, ◌+◌, ◌-◌, ◌*◌, ◌/◌, ◌%◌, ◌<◌, ◌≤◌, ◌^◌, Bool, true, false, cond, ◌&&◌, List, [], ◌∷◌, ◌++◌, length, take, drop, Some, None, Option, Ok, refl, ap, sym, ◌∙◌, subst, append_assoc, arith, inl, inr}
-use Rattle.std.specs.List.{flat_map, list_all}
-use Rattle.std.proofs.lemmas.Bool.{le-ltb, lt-ltb, ltb-true, ne_eqb, eq-eqb, cases_lt}
-use borrow.Author.Tests.{leb-true}
+use Rattle.std.proofs.Common.{◌⊎◌, ◌≡◌, ◌≢◌, ℕ, ◌+◌, ◌*◌, ◌/◌, ◌%◌, ◌≤◌, Bool, true, false, cond, ◌&&◌, List, [], ◌∷◌, ◌++◌, length, Ok, refl, append_assoc, arith, inl, inr}
+use Rattle.std.specs.List.{flat_map}
+use Rattle.std.proofs.lemmas.Bool.{le-ltb, ne_eqb}
 use Rattle.std.proofs.lemmas.List.{take_at, drop_at, length-append}
-use Rattle.parcel.specs.Checked.{is_text}
-use Rattle.v8_wire.specs.declared.fault.Fault.{Fault}
-use Rattle.v8_wire.specs.Faults.{◌>>=◌}
 use Rattle.v8_wire.specs.Text.{pairs, bytes_at, narrow_at, wide_at, string_at}
 use Rattle.v8_wire.specs.Leaf.{unpadded}
-use Rattle.v8_wire.specs.Spelling.{varint, is_narrow, pair, padding, wide, string}
+use Rattle.v8_wire.specs.Spelling.{varint, is_narrow, pair, string}
 use Rattle.v8_wire.proofs.NumbersAgain.{varint-again}
 
 and_true : (a b : Bool) → (◌&&◌ a b) ≡ true → (a ≡ true) × (b ≡ true)

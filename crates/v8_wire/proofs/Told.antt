@@ -1,13 +1,12 @@
 -- What was read is walked.
-use Rattle.std.proofs.Common.{◌⊎◌, ◌≡◌, ◌≢◌, ℕ, zero, suc, ◌+◌, ◌*◌, ◌<◌, ◌≤◌, ◌^◌, Bool, true, false, cond, not, ◌&&◌, ◌||◌, List, [], ◌∷◌, ◌++◌, length, map, Option, Some, None, Result, Ok, Err, refl, ap, sym, ◌∙◌, subst, append_assoc, arith, inl, inr, eqb, ltb, leb, add-one}
-use Rattle.std.specs.Prelude.{slice_get, slice_set}
+use Rattle.std.proofs.Common.{◌≡◌, ℕ, zero, suc, ◌+◌, ◌<◌, ◌≤◌, ◌^◌, Bool, true, false, cond, ◌&&◌, List, [], ◌∷◌, ◌++◌, length, Option, Some, None, Result, Ok, Err, refl, ap, sym, ◌∙◌, subst, append_assoc, arith, inl, inr, eqb, ltb, leb}
+use Rattle.std.specs.Prelude.{slice_get}
 use Rattle.std.specs.List.{list_all}
-use Rattle.std.proofs.lemmas.Bool.{le-ltb, lt-ltb, ltb-true, ltb-false, eq-eqb, eqb-true, cases_lt}
+use Rattle.std.proofs.lemmas.Bool.{le-ltb, lt-ltb, ltb-false, eq-eqb, cases_lt}
 use Rattle.std.proofs.lemmas.List.{append-nil, length-append}
 use Rattle.std.proofs.lemmas.Option.{slice_get_within}
-use borrow.Author.Tests.{leb-true, le-leb, lt-leb, leb-false}
-use Rattle.parcel.specs.Checked as checked
-use Rattle.parcel.specs.Checked.{value_met, node_met, contents_met, buffer_met, with_text, with_units, with_contents, with_message, only_if, numbered, is_text, is_contents, is_safe, is_word}
+use borrow.Author.Tests.{le-leb, lt-leb, leb-false}
+use Rattle.parcel.specs.Checked.{value_met, node_met, contents_met, buffer_met, with_text, with_message, numbered, is_text, is_safe}
 use Rattle.parcel.specs.Plain.{is_plain_item, items_of, is_port_below}
 use Rattle.parcel.specs.declared.parcel.Item.{Item}
 use Rattle.parcel.specs.declared.parcel.Item.TheVariants as items

@@ -1,25 +1,21 @@
 -- Elements, entries and items that were written are read again.
-use Rattle.std.proofs.Common.{◌⊎◌, ◌≡◌, ◌≢◌, ℕ, zero, suc, ◌+◌, ◌*◌, ◌<◌, ◌≤◌, ◌^◌, Bool, true, false, cond, ◌&&◌, List, [], ◌∷◌, ◌++◌, length, map, take, Option, Some, None, Ok, refl, ap, sym, ◌∙◌, subst, append_assoc, arith, inl, inr, eqb, ltb, leb, add-one}
+use Rattle.std.proofs.Common.{◌≡◌, ℕ, ◌+◌, ◌*◌, ◌<◌, ◌^◌, Bool, true, ◌&&◌, List, [], ◌∷◌, ◌++◌, length, take, Option, Some, Ok, refl, ap, sym, ◌∙◌, subst, append_assoc, arith}
 use Rattle.std.specs.List.{list_all}
-use Rattle.std.proofs.lemmas.Bool.{le-ltb, lt-ltb, ltb-true, ltb-false, eq-eqb}
-use Rattle.std.proofs.lemmas.List.{append-nil, length-append}
+use Rattle.std.proofs.lemmas.Bool.{le-ltb, lt-ltb, eq-eqb}
+use Rattle.std.proofs.lemmas.List.{length-append}
 use Rattle.parcel.specs.Checked.{visit_entry}
 use Rattle.parcel.specs.Plain.{is_plain_item}
 use Rattle.parcel.specs.declared.parcel.Item.{Item}
 use Rattle.parcel.specs.declared.parcel.PNode.{PNode}
 use Rattle.parcel.specs.declared.parcel.PNode.TheVariants as kinds
 use Rattle.parcel.specs.declared.tally.Tally.{Tally}
-use Rattle.v8_wire.specs.declared.fault.Fault.{Fault}
 use Rattle.v8_wire.specs.declared.met.Met.{Met}
-use Rattle.v8_wire.specs.declared.open.Open.{Open}
 use Rattle.v8_wire.specs.declared.open.Open.TheVariants.{Array, Map, Set}
-use Rattle.v8_wire.specs.declared.open.Turn.TheVariants.{More, End}
-use Rattle.v8_wire.specs.Faults.{◌>>=◌}
+use Rattle.v8_wire.specs.declared.open.Turn.TheVariants.{End}
 use Rattle.v8_wire.specs.Leaf.{unpadded}
-use Rattle.v8_wire.specs.Number.{varint_at}
-use Rattle.v8_wire.specs.Contents.{ItemReader, count_at, turn_at, turn_with, array_turn, map_turn, set_turn, contents_at}
-use Rattle.v8_wire.specs.Spelling.{Written, written, groups, varint, put_all, put_entry}
-use Rattle.v8_wire.proofs.Again.{some_bind, Agrees, NoView, NoView-tag, IsFront}
+use Rattle.v8_wire.specs.Contents.{ItemReader, count_at, turn_at, turn_with, array_turn, map_turn, set_turn}
+use Rattle.v8_wire.specs.Spelling.{Written, written, groups, varint, put_entry}
+use Rattle.v8_wire.proofs.Again.{some_bind, Agrees, NoView, NoView-tag}
 use Rattle.v8_wire.proofs.NumbersAgain.{varint-again}
 use Rattle.v8_wire.proofs.LeavesAgain.{and_true}
 use Rattle.v8_wire.proofs.ListsAgain.{ItemAgain, TurnAgain}

@@ -1,18 +1,15 @@
 -- A parcel that was written is read again.
-use Rattle.std.proofs.Common.{◌≡◌, ℕ, zero, suc, ◌+◌, ◌≤◌, Bool, true, false, ◌&&◌, List, [], ◌∷◌, ◌++◌, length, take, Option, Some, None, Result, Ok, Err, refl, ap, sym, ◌∙◌, subst, arith, eqb, lit≤}
-use Rattle.std.specs.Prelude.{IsTrue, slice_get}
+use Rattle.std.proofs.Common.{◌≡◌, ℕ, true, List, [], ◌∷◌, length, take, Option, Some, None, Result, Ok, refl, ap, sym, ◌∙◌, arith}
+use Rattle.std.specs.Prelude.{IsTrue}
 use Rattle.std.specs.List.{list_all}
 use Rattle.std.proofs.lemmas.Bool.{eqb-true}
 use Rattle.std.proofs.lemmas.List.{append-nil, take_all}
 use Rattle.parcel.specs.Checked.{all_met, is_checked, IsChecked, ends_with, nothing_met}
 use Rattle.parcel.specs.Plain.{is_plain, IsPlain, is_plain_item, items_of, is_port_below, ports_below}
-use Rattle.parcel.specs.declared.parcel.Item.{Item}
 use Rattle.parcel.specs.declared.parcel.PNode.{PNode}
 use Rattle.parcel.specs.declared.parcel.Parcel.{Parcel}
 use Rattle.parcel.specs.declared.tally.Tally.{Tally}
 use Rattle.v8_wire.specs.declared.fault.Fault.{Fault}
-use Rattle.v8_wire.specs.declared.met.Met.{Met}
-use Rattle.v8_wire.specs.Faults.{◌>>=◌}
 use Rattle.v8_wire.specs.Item.{alone, fresh, root_at, version_at, parcel_at}
 use Rattle.v8_wire.specs.Spelling.{written, spelled}
 use Rattle.v8_wire.proofs.Again.{Agrees, NoView-end}

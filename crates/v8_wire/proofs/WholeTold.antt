@@ -1,17 +1,15 @@
 -- A parcel that was read is checked, has no functions and promises, and its ports came along.
-use Rattle.std.proofs.Common.{◌≡◌, ℕ, zero, suc, ◌+◌, ◌<◌, ◌≤◌, Bool, true, false, cond, ◌&&◌, ◌||◌, List, [], ◌∷◌, ◌++◌, length, get_or, Option, Some, None, Result, Ok, Err, refl, ap, sym, ◌∙◌, subst, arith, eqb, leb, ltb}
-use Rattle.std.specs.Prelude.{IsTrue, slice_get}
+use Rattle.std.proofs.Common.{◌≡◌, ℕ, suc, ◌<◌, Bool, true, ◌||◌, List, [], ◌∷◌, length, get_or, Option, Some, None, Ok, refl, sym, subst, eqb, leb, ltb}
+use Rattle.std.specs.Prelude.{IsTrue}
 use Rattle.std.specs.List.{list_all}
 use Rattle.std.proofs.lemmas.Bool.{lt-ltb, eq-eqb}
-use Rattle.parcel.specs.Checked.{all_met, is_checked, IsChecked, ends_with, nothing_met, item_met}
+use Rattle.parcel.specs.Checked.{all_met, is_checked, IsChecked, nothing_met, item_met}
 use Rattle.parcel.specs.Plain.{is_plain, IsPlain, is_plain_item, items_of, is_port_below, ports_below}
 use Rattle.parcel.specs.declared.parcel.Item.{Item}
 use Rattle.parcel.specs.declared.parcel.PNode.{PNode}
 use Rattle.parcel.specs.declared.parcel.PNode.TheVariants as kinds
 use Rattle.parcel.specs.declared.parcel.Parcel.{Parcel}
-use Rattle.v8_wire.specs.declared.fault.Fault.{Fault}
 use Rattle.v8_wire.specs.declared.met.Met.{Met}
-use Rattle.v8_wire.specs.Faults.{◌>>=◌}
 use Rattle.v8_wire.specs.Item.{item_at, alone, fresh, root_at, version_at, parcel_at}
 use Rattle.v8_wire.proofs.LeavesAgain.{and_true}
 use Rattle.v8_wire.proofs.Holds.{Holds, holds-bind, holds-if, holds-ok, AreBytes}
