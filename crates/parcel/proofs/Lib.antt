@@ -1,4 +1,10 @@
+pub mod Agree
+pub mod Counting
+pub mod Names
+pub mod NodeMet
+pub mod Prefixes
 pub mod Ranges
 pub mod Showing
+pub mod Tallies
 pub mod Turning
-pub mod Counting
+pub mod Walks
