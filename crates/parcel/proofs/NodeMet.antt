@@ -28,6 +28,7 @@ pub record Viewed (nodes : List PNode) (number buffer offset size : ℕ) (met no
   pub first : number ≡ behind.nodes
   pub low : number < 100_000
   pub next : now.nodes ≡ number + 1
+  pub given : numbered number behind ≡ Some now
 
 -- a message is a text
 abbrev pub is_message : Option (List ℕ) → Boolean
@@ -90,4 +91,21 @@ node-told visit nodes number (View buffer offset size) met now e =
       first = given.0;
       low = given.1;
       next = given.2;
+      given = steps.2;
     }
+
+-- A node that was met for the first time has a number within the limit.
+pub node-low : (visit : Item → Tally → Option Tally) (nodes : List PNode) (number : ℕ) (node : PNode) (met now : Tally)
+    → node_met visit nodes number node met ≡ Some now → number < 100_000
+node-low visit nodes number (Object properties) met now e =
+    let t = node-told visit nodes number (Object properties) met now e in (numbered-told number met t.start t.given).1
+node-low visit nodes number (Array items) met now e =
+    let t = node-told visit nodes number (Array items) met now e in (numbered-told number met t.start t.given).1
+node-low visit nodes number (Map entries) met now e =
+    let t = node-told visit nodes number (Map entries) met now e in (numbered-told number met t.start t.given).1
+node-low visit nodes number (Set items) met now e =
+    let t = node-told visit nodes number (Set items) met now e in (numbered-told number met t.start t.given).1
+node-low visit nodes number (Error kind message) met now e = (node-told visit nodes number (Error kind message) met now e).low
+node-low visit nodes number (Port place) met now e = (node-told visit nodes number (Port place) met now e).low
+node-low visit nodes number (Buffer bytes) met now e = (node-told visit nodes number (Buffer bytes) met now e).low
+node-low visit nodes number (View buffer offset size) met now e = (node-told visit nodes number (View buffer offset size) met now e).low

@@ -63,12 +63,20 @@ with_contents-told bytes met now e =
     let test = only_if-told (is_contents bytes) met steps.0 steps.1 in
     (test.0, with_units-told (length bytes) steps.0 now steps.2 ∙ ap (λ t. t.nodes) test.1)
 
+-- A buffer that takes the next number with its view.
+pub record BufferNew (buffer : ℕ) (bytes : List ℕ) (met now : Tally) : Type 0 where
+  pub first : buffer ≡ met.nodes
+  pub low : buffer < 100_000
+  pub next : now.nodes ≡ buffer + 1
+  pub tested : is_contents bytes ≡ true
+  pub given : (numbered buffer met >>= with_contents bytes) ≡ Some now
+
 -- A view's buffer: it holds the view; it was met before, or it takes the next number here.
 pub record BufferTold (buffer offset size : ℕ) (node : Option PNode) (met now : Tally) : Type 0 where
   pub bytes : List ℕ
   pub is : node ≡ Some (Buffer bytes)
   pub within : offset + size ≤ length bytes
-  pub when : ((buffer < met.nodes) × (now ≡ met)) ⊎ ((buffer ≡ met.nodes) × (buffer < 100_000) × (now.nodes ≡ buffer + 1) × (is_contents bytes ≡ true))
+  pub when : ((buffer < met.nodes) × (now ≡ met)) ⊎ BufferNew buffer bytes met now
 
 pub buffer-told : (buffer offset size : ℕ) (node : Option PNode) (met now : Tally) → buffer_met buffer offset size node met ≡ Some now
     → BufferTold buffer offset size node met now
@@ -92,10 +100,10 @@ buffer-told buffer offset size (Some (Buffer bytes)) met now e =
   where
     by_number : (test : Bool) → nat_lt buffer met.nodes ≡ test
         → (if test then Some met else numbered buffer met >>= with_contents bytes) ≡ Some now
-        → ((buffer < met.nodes) × (now ≡ met)) ⊎ ((buffer ≡ met.nodes) × (buffer < 100_000) × (now.nodes ≡ buffer + 1) × (is_contents bytes ≡ true))
+        → ((buffer < met.nodes) × (now ≡ met)) ⊎ BufferNew buffer bytes met now
     by_number true t rest = inl (omega (arith, ltb-true, t), cc)
     by_number false t rest =
         let steps = both (numbered buffer met) (with_contents bytes) now rest in
         let number = numbered-told buffer met steps.0 steps.1 in
         let contents = with_contents-told bytes steps.0 now steps.2 in
-        inr (number.0, number.1, contents.1 ∙ number.2, contents.0)
+        inr (record { first = number.0; low = number.1; next = contents.1 ∙ number.2; tested = contents.0; given = rest })

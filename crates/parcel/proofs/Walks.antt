@@ -104,7 +104,7 @@ module _ (nodes : List PNode) (visit : Item → Tally → Option Tally) (show : 
   node-counts number (View buffer offset size) met now next e = sym (node-told visit nodes number (View buffer offset size) met now e).next
 
   -- a node that took its number, and is no long buffer
-  one-keeps : (number next : ℕ) (node : PNode) (met : Tally) → Fair nodes met.nodes → number ≡ met.nodes → number < 100_000 → next ≡ number + 1
+  pub one-keeps : (number next : ℕ) (node : PNode) (met : Tally) → Fair nodes met.nodes → number ≡ met.nodes → number < 100_000 → next ≡ number + 1
       → slice_get nodes number ≡ Some node → ((bytes : List ℕ) → node ≡ Buffer bytes → length bytes ≤ 1_048_576) → Fair nodes next
   one-keeps number next node met fair first low e at short =
       Fair-at nodes (number + 1) next (sym e)
@@ -119,12 +119,12 @@ module _ (nodes : List PNode) (visit : Item → Tally → Option Tally) (show : 
       let given = numbered-told number met t.start t.given in
       list t.start t.walked (one-keeps number t.start.nodes node met fair given.0 given.1 given.2 at (λ bytes e. absurd (other bytes e)))
 
-  contents-short : (bytes : List ℕ) → is_contents bytes ≡ true → length bytes ≤ 1_048_576
+  pub contents-short : (bytes : List ℕ) → is_contents bytes ≡ true → length bytes ≤ 1_048_576
   contents-short bytes e =
       let parts = and_parts (leb (length bytes) 1_048_576) (list_all (λ byte. nat_lt byte 256) bytes) e in
       elim (leb_tells (length bytes) 1_048_576) [ inl fine ↦ fine.1 | inr long ↦ absurd (let h = sym parts.0 ∙ long.0 in cc) ]
 
-  buffer-short : (bytes more : List ℕ) → is_contents bytes ≡ true → Buffer bytes ≡ Buffer more → length more ≤ 1_048_576
+  pub buffer-short : (bytes more : List ℕ) → is_contents bytes ≡ true → Buffer bytes ≡ Buffer more → length more ≤ 1_048_576
   buffer-short bytes more e same = let h : bytes ≡ more = cc in rw (sym h) (contents-short bytes e)
 
   pub node-keeps : (number : ℕ) (node : PNode) (met now : Tally) → slice_get nodes number ≡ Some node → node_met visit nodes number node met ≡ Some now
@@ -157,7 +157,7 @@ module _ (nodes : List PNode) (visit : Item → Tally → Option Tally) (show : 
       let b = t.buffer_told in
       let behind : Fair nodes t.behind.nodes = elim b.when [
             | inl old ↦ Fair-at nodes met.nodes t.behind.nodes (sym (ap (λ (m : Tally). m.nodes) old.1)) fair
-            | inr new ↦ one-keeps buffer t.behind.nodes (Buffer b.bytes) met fair new.0 new.1 new.2 b.is (λ more same. buffer-short b.bytes more new.3 same)
+            | inr new ↦ one-keeps buffer t.behind.nodes (Buffer b.bytes) met fair new.first new.low new.next b.is (λ more same. buffer-short b.bytes more new.tested same)
           ] in
       one-keeps number now.nodes (View buffer offset size) t.behind behind t.first t.low t.next at (λ bytes same. absurd cc)
 
