@@ -1,9 +1,8 @@
 -- What walks over a list of nodes keep, and where two lists of nodes have the same nodes.
-use Rattle.std.proofs.Common.{◌≡◌, ℕ, ◌+◌, ◌<◌, ◌≤◌, inl, inr, List, length, slice_get, Option, Some, None, sym, ◌∙◌, arith}
+use Rattle.std.proofs.Common.{◌≡◌, ℕ, ◌+◌, ◌<◌, ◌≤◌, inl, inr, List, length, slice_get, Some, sym, ◌∙◌, arith}
 use Rattle.std.proofs.lemmas.Bool.{cases_lt}
 use Rattle.parcel.specs.declared.parcel.PNode.{PNode}
 use Rattle.parcel.specs.declared.parcel.PNode.TheVariants.{Buffer}
-use Rattle.parcel.specs.declared.tally.Tally.{Tally}
 
 -- The same nodes stand from one number up to another.
 pub record Agree (p q : List PNode) (from to : ℕ) : Type 0 where
@@ -39,9 +38,9 @@ Fair-more nodes next fair room here =
     record {
       count = omega arith;
       short = λ k bytes low e. elim (cases_lt k next) [
-            | inl before ↦ fair.short k bytes before e
-            | inr last ↦ let same : k ≡ next = omega arith in here bytes (rw same at e)
-          ];
+        | inl before ↦ fair.short k bytes before e
+        | inr last ↦ let same : k ≡ next = omega arith in here bytes (rw same at e)
+      ];
     }
 
 pub Fair-at : (nodes : List PNode) (a b : ℕ) → a ≡ b → Fair nodes a → Fair nodes b

@@ -8,5 +8,6 @@ pub mod Ranges
 pub mod Showing
 pub mod Splitting
 pub mod Tallies
+pub mod Telling
 pub mod Turning
 pub mod Walks

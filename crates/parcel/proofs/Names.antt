@@ -1,5 +1,5 @@
 -- The name of an item can be told apart from what follows it.
-use Rattle.std.proofs.Common.{◌≡◌, ◌≢◌, ℕ, zero, suc, ◌+◌, ◌^◌, ◌<◌, ◌≤◌, ◌⊎◌, inl, inr, Bool as Boolean, true, false, if◌then◌else◌, List, [], ◌∷◌, ◌++◌, length, get_or, ℤ, pos, negsuc, refl, sym, ap, ◌∙◌, subst, arith}
+use Rattle.std.proofs.Common.{◌≡◌, ◌≢◌, ℕ, suc, ◌^◌, ◌<◌, true, false, if◌then◌else◌, List, [], ◌∷◌, ◌++◌, length, get_or, pos, negsuc, refl, sym, ap, ◌∙◌, subst, arith}
 use Rattle.std.specs.Fmt.{decimal}
 use Rattle.std.specs.List.{list_all}
 use Rattle.std.proofs.Math.Dec.{eqb}
@@ -125,8 +125,16 @@ number-digit n more low = first-digit (decimal n) more (decimal_nonempty n low) 
 
 digit-kind : (a c d : ℕ) → IsDigit a → kind_by a c d ≡ 4
 digit-kind a c d digit =
-    rw (no 117 (omega (arith, digit.1)), no 110 (omega (arith, digit.1)), no 116 (omega (arith, digit.1)), no 45 (omega (arith, digit.0)),
-        no 34 (omega (arith, digit.0)), no 35 (omega (arith, digit.0)), no 111 (omega (arith, digit.1)), no 102 (omega (arith, digit.1))) refl
+    rw (
+      no 117 (omega (arith, digit.1)),
+      no 110 (omega (arith, digit.1)),
+      no 116 (omega (arith, digit.1)),
+      no 45 (omega (arith, digit.0)),
+      no 34 (omega (arith, digit.0)),
+      no 35 (omega (arith, digit.0)),
+      no 111 (omega (arith, digit.1)),
+      no 102 (omega (arith, digit.1)),
+    ) refl
   where
     no : (m : ℕ) → a ≢ m → eqb a m ≡ false
     no m other = ne_eqb a m other

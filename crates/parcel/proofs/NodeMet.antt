@@ -1,7 +1,7 @@
 -- What the first visit of a node tells, by its kind.
 use Rattle.std.proofs.Common.{◌≡◌, ℕ, ◌+◌, ◌<◌, Bool as Boolean, true, List, map, slice_get, Option, Some, None, refl, sym, ap, ◌∙◌, subst}
 use Rattle.parcel.specs.Keys.{are_keys}
-use Rattle.parcel.specs.Checked.{◌>>=◌, is_text, is_word, is_contents, only_if, with_text, with_message, with_contents, numbered, in_turn, visit_property, visit_entry, contents_met, buffer_met, node_met}
+use Rattle.parcel.specs.Checked.{◌>>=◌, is_text, is_word, is_contents, only_if, with_message, with_contents, numbered, in_turn, visit_property, visit_entry, contents_met, buffer_met, node_met}
 use Rattle.parcel.specs.declared.parcel.Item.{Item}
 use Rattle.parcel.specs.declared.parcel.PNode.{PNode}
 use Rattle.parcel.specs.declared.parcel.PNode.TheVariants.{Object, Array, Error, Map, Set, Port, Buffer, View}

@@ -1,5 +1,5 @@
 -- Texts whose end can be told: of two equal texts that begin so, the fronts are equal, and so is what follows.
-use Rattle.std.proofs.Common.{◌≡◌, ◌≢◌, ℕ, zero, suc, ◌+◌, ◌*◌, ◌/◌, ◌%◌, ◌^◌, ◌<◌, ◌≤◌, ◌⊎◌, inl, inr, Bool, true, false, nat_lt, ltb, ◌&&◌, ◌||◌, if◌then◌else◌, List, [], ◌∷◌, ◌++◌, slice_index, Option, Some, None, ℤ, pos, negsuc, refl, sym, ap, ◌∙◌, subst, append_assoc, arith}
+use Rattle.std.proofs.Common.{◌≡◌, ◌≢◌, ℕ, ◌/◌, ◌%◌, ◌^◌, ◌<◌, ◌≤◌, ◌⊎◌, inl, inr, Bool, true, false, nat_lt, ltb, ◌&&◌, ◌||◌, if◌then◌else◌, List, [], ◌∷◌, ◌++◌, slice_index, Option, Some, refl, sym, ap, ◌∙◌, subst, append_assoc, arith}
 use Rattle.std.specs.List.{list_all, flat_map}
 use Rattle.std.specs.Char.{digit_char, digit_value}
 use Rattle.std.specs.Char.Escape.{hex_digit_at}
@@ -68,12 +68,12 @@ by_range a false false p q = plain a p q
 
 Quoted-unit : (a : ℕ) → Quoted a (quoted_unit a)
 Quoted-unit a = elim (eqb_tells a 34) [
-      | inl quote ↦ rw quote.0 (special a (inl quote.1))
-      | inr other ↦ elim (eqb_tells a 92) [
-            | inl slash ↦ rw (other.0, slash.0) (special a (inr slash.1))
-            | inr plain_one ↦ rw (other.0, plain_one.0) (by_range a (nat_lt a 32) (nat_lt 126 a) other.1 plain_one.1)
-          ]
-    ]
+  | inl quote ↦ rw quote.0 (special a (inl quote.1))
+  | inr other ↦ elim (eqb_tells a 92) [
+    | inl slash ↦ rw (other.0, slash.0) (special a (inr slash.1))
+    | inr plain_one ↦ rw (other.0, plain_one.0) (by_range a (nat_lt a 32) (nat_lt 126 a) other.1 plain_one.1)
+  ]
+]
 
 -- the four digits of a unit, read back
 digit-same : (c d : ℕ) → c < 16 → d < 16 → digit_char c ≡ digit_char d → c ≡ d
@@ -124,8 +124,8 @@ units-apart (a ∷ u) (b ∷ v) xs ys p q e =
     let here = and_parts (is_unit a) (list_all is_unit u) p in
     let there = and_parts (is_unit b) (list_all is_unit v) q in
     let first = unit-apart a b (quoted_unit a) (quoted_unit b) (flat_map quoted_unit u ++ (34 ∷ xs)) (flat_map quoted_unit v ++ (34 ∷ ys))
-        (below a 65_536 here.0) (below b 65_536 there.0) (Quoted-unit a) (Quoted-unit b)
-        (sym (append_assoc (quoted_unit a) _ _) ∙ e ∙ append_assoc (quoted_unit b) _ _) in
+    (below a 65_536 here.0) (below b 65_536 there.0) (Quoted-unit a) (Quoted-unit b)
+    (sym (append_assoc (quoted_unit a) _ _) ∙ e ∙ append_assoc (quoted_unit b) _ _) in
     let rest = units-apart u v xs ys here.1 there.1 first.1 in
     (rw (first.0, rest.0) refl, rest.1)
   where

@@ -1,30 +1,28 @@
 -- What is shown of nodes and items can be told apart, so that the text of a checked parcel tells the parcel.
-use Rattle.std.proofs.Common.{◌≡◌, ◌≢◌, ℕ, zero, suc, ◌+◌, ◌*◌, ◌^◌, ◌<◌, ◌≤◌, ◌⊎◌, inl, inr, Bool as Boolean, true, false, if◌then◌else◌, nat_lt, ltb, IsTrue, List, [], ◌∷◌, ◌++◌, length, get_or, slice_get, codes, Option, Some, None, refl, sym, ap, ◌∙◌, subst, append_assoc, append-nil, arith}
+use Rattle.std.proofs.Common.{◌≡◌, ◌≢◌, ℕ, ◌+◌, ◌*◌, ◌^◌, ◌<◌, ◌≤◌, inl, inr, Bool as Boolean, true, false, if◌then◌else◌, nat_lt, List, [], ◌∷◌, ◌++◌, length, get_or, slice_get, codes, Option, Some, None, refl, sym, ap, ◌∙◌, subst, append_assoc, arith}
 use Rattle.std.specs.Fmt.{decimal}
 use Rattle.std.specs.List.{list_all}
 use Rattle.std.proofs.lemmas.Bool.{and_parts}
-use Rattle.std.proofs.Math.Dec.{leb, eqb}
-use Rattle.std.proofs.lemmas.Bool.Decides.{eqb_tells, nat_tests}
+use Rattle.std.proofs.Math.Dec.{leb}
+use Rattle.std.proofs.lemmas.Bool.Decides.{nat_tests}
 use borrow.Author.Tests.{ltb-true, leb-true}
 use Rattle.hex.specs.Hex.{encode_upper}
 use Rattle.wl_text.specs.Text.{quoted}
-use Rattle.parcel.specs.Checked.{◌>>=◌, is_safe, is_text, with_text, is_contents, is_word, with_item, with_message, with_contents, only_if, numbered, in_turn, visit_property, visit_entry, contents_met, buffer_met, node_met, reference_met, value_met, item_met, nothing_met, all_met, ends_with, is_checked, IsChecked}
-use Rattle.parcel.specs.Text.{Shown, list_shown, property_shown, entry_shown, kind_name, message_shown, bytes_shown, buffer_shown, view_shown, item_name, node_shown, first_shown, rest_shown, item_shown, text_of}
+use Rattle.parcel.specs.Checked.{◌>>=◌, is_safe, is_text, with_text, is_contents, is_word, with_message, with_contents, only_if, numbered, in_turn, visit_property, visit_entry, contents_met, node_met, value_met}
+use Rattle.parcel.specs.Text.{Shown, list_shown, property_shown, entry_shown, kind_name, message_shown, bytes_shown, view_shown, node_shown, first_shown, rest_shown}
 use Rattle.parcel.specs.declared.parcel.ErrorKind.{ErrorKind}
 use Rattle.parcel.specs.declared.parcel.ErrorKind.TheVariants.{Error as Plain, EvalError, RangeError, ReferenceError, SyntaxError, TypeError, URIError}
 use Rattle.parcel.specs.declared.parcel.Item.{Item}
 use Rattle.parcel.specs.declared.parcel.Item.TheVariants.{Undefined, Null, Bool, Num, Str, Node, Fn, Prom}
 use Rattle.parcel.specs.declared.parcel.PNode.{PNode}
 use Rattle.parcel.specs.declared.parcel.PNode.TheVariants.{Object, Array, Error, Map, Set, Port, Buffer, View}
-use Rattle.parcel.specs.declared.parcel.Parcel.{Parcel}
 use Rattle.parcel.specs.declared.tally.Tally.{Tally}
-use Rattle.parcel.proofs.Agree.{Agree, Agree-none, Agree-along, Agree-one, Agree-at, Fair, Fair-none, Fair-more, Fair-at}
+use Rattle.parcel.proofs.Agree.{Agree, Agree-none, Agree-along, Agree-one, Agree-at, Fair, Fair-more, Fair-at}
 use Rattle.parcel.proofs.Lists.{Told, Splits, property-splits, entry-splits, list-splits}
-use Rattle.parcel.proofs.Names.{IsReadable, name-apart}
-use Rattle.parcel.proofs.NodeMet.{Listed, Alone, Viewed, NodeTold, is_message, node-told, node-low}
-use Rattle.parcel.proofs.Prefixes.{Stops, decimal-apart, quoted-apart, hex-apart, is_unit, is_byte}
-use Rattle.parcel.proofs.Tallies.{both, only_if-told, with_item-told, with_text-told, numbered-told, BufferNew, BufferTold}
-use Rattle.parcel.proofs.Walks.{Walks, IsCloser, property-walks, entry-walks, one-keeps, item-walks}
+use Rattle.parcel.proofs.NodeMet.{Listed, Viewed, is_message, node-told}
+use Rattle.parcel.proofs.Prefixes.{decimal-apart, quoted-apart, hex-apart, is_unit, is_byte}
+use Rattle.parcel.proofs.Tallies.{only_if-told, with_text-told, numbered-told, BufferTold}
+use Rattle.parcel.proofs.Walks.{Walks, IsCloser, property-walks, entry-walks}
 
 some-same : {A : Type 0} (o : Option A) (x y : A) → o ≡ Some x → o ≡ Some y → x ≡ y
 some-same o x y e f = let h : Some x ≡ Some y = sym e ∙ f in cc
@@ -115,14 +113,14 @@ message-apart (Some m) (Some n) xs ys p q e =
 
 error-apart : (j k : ErrorKind) (m n : Option (List ℕ)) (xs ys : List ℕ) → is_message m ≡ true → is_message n ≡ true
     → (codes "!" ++ (kind_name j ++ (codes "(" ++ (message_shown m ++ codes ")")))) ++ xs
-        ≡ (codes "!" ++ (kind_name k ++ (codes "(" ++ (message_shown n ++ codes ")")))) ++ ys
+    ≡ (codes "!" ++ (kind_name k ++ (codes "(" ++ (message_shown n ++ codes ")")))) ++ ys
     → (j ≡ k) × (m ≡ n) × (xs ≡ ys)
 error-apart j k m n xs ys p q e =
     let front : (kind_name j ++ (40 ∷ (message_shown m ++ 41 ∷ []))) ++ xs ≡ (kind_name k ++ (40 ∷ (message_shown n ++ 41 ∷ []))) ++ ys = cc in
     let kinds = kind-apart j k ((message_shown m ++ 41 ∷ []) ++ xs) ((message_shown n ++ 41 ∷ []) ++ ys)
-        (sym (append_assoc (kind_name j) _ xs) ∙ front ∙ append_assoc (kind_name k) _ ys) in
+    (sym (append_assoc (kind_name j) _ xs) ∙ front ∙ append_assoc (kind_name k) _ ys) in
     let messages = message-apart m n xs ys p q
-        (sym (append_assoc (message_shown m) (41 ∷ []) xs) ∙ kinds.1 ∙ append_assoc (message_shown n) (41 ∷ []) ys) in
+    (sym (append_assoc (message_shown m) (41 ∷ []) xs) ∙ kinds.1 ∙ append_assoc (message_shown n) (41 ∷ []) ys) in
     (kinds.0, messages.0, messages.1)
 
 -- ---- numbers, bytes and views
@@ -132,7 +130,7 @@ number-apart : (m n c : ℕ) (us vs xs ys : List ℕ) → m < 2 ^ 64 → n < 2 ^
     → (decimal m ++ (c ∷ us)) ++ xs ≡ (decimal n ++ (c ∷ vs)) ++ ys → (m ≡ n) × (us ++ xs ≡ vs ++ ys)
 number-apart m n c us vs xs ys p q stop e =
     let h = decimal-apart m n (c ∷ (us ++ xs)) (c ∷ (vs ++ ys)) p q stop stop
-        (sym (append_assoc (decimal m) (c ∷ us) xs) ∙ e ∙ append_assoc (decimal n) (c ∷ vs) ys) in
+    (sym (append_assoc (decimal m) (c ∷ us) xs) ∙ e ∙ append_assoc (decimal n) (c ∷ vs) ys) in
     (h.0, cc)
 
 bytes-apart : (a b xs ys : List ℕ) → is_contents a ≡ true → is_contents b ≡ true → bytes_shown a ++ xs ≡ bytes_shown b ++ ys → (a ≡ b) × (xs ≡ ys)
@@ -140,7 +138,7 @@ unfolding bytes_shown
 bytes-apart a b xs ys p q e =
     let front : (encode_upper a ++ 41 ∷ []) ++ xs ≡ (encode_upper b ++ 41 ∷ []) ++ ys = cc in
     hex-apart a b xs ys (contents-bytes a p) (contents-bytes b q)
-        (sym (append_assoc (encode_upper a) (41 ∷ []) xs) ∙ front ∙ append_assoc (encode_upper b) (41 ∷ []) ys)
+    (sym (append_assoc (encode_upper a) (41 ∷ []) xs) ∙ front ∙ append_assoc (encode_upper b) (41 ∷ []) ys)
 
 port-apart : (m n : ℕ) (xs ys : List ℕ) → is_word m ≡ true → is_word n ≡ true
     → (codes "port(" ++ (decimal m ++ codes ")")) ++ xs ≡ (codes "port(" ++ (decimal n ++ codes ")")) ++ ys → (m ≡ n) × (xs ≡ ys)
@@ -170,7 +168,7 @@ view-old buffer offset size next bytes low =
 
 view-new : (buffer offset size next : ℕ) (bytes : List ℕ) → buffer ≡ next
     → view_shown buffer offset size (Some (Buffer bytes)) next
-        ≡ codes "view(#" ++ (decimal buffer ++ (61 ∷ (bytes_shown bytes ++ (44 ∷ span offset size))))
+    ≡ codes "view(#" ++ (decimal buffer ++ (61 ∷ (bytes_shown bytes ++ (44 ∷ span offset size))))
 unfolding view_shown
 view-new buffer offset size next bytes e =
     let test : nat_lt buffer next ≡ false = grind (arith, nat_tests) in
@@ -188,13 +186,13 @@ old-apart b c m n k l xs ys pb pc pm pn pk pl e =
 new-apart : (b c m n k l : ℕ) (bytes more xs ys : List ℕ) → is_contents bytes ≡ true → is_contents more ≡ true
     → b < 2 ^ 64 → c < 2 ^ 64 → m < 2 ^ 64 → n < 2 ^ 64 → k < 2 ^ 64 → l < 2 ^ 64
     → (codes "view(#" ++ (decimal b ++ (61 ∷ (bytes_shown bytes ++ (44 ∷ span m k))))) ++ xs
-        ≡ (codes "view(#" ++ (decimal c ++ (61 ∷ (bytes_shown more ++ (44 ∷ span n l))))) ++ ys
+    ≡ (codes "view(#" ++ (decimal c ++ (61 ∷ (bytes_shown more ++ (44 ∷ span n l))))) ++ ys
     → (b ≡ c) × (bytes ≡ more) × (m ≡ n) × (k ≡ l) × (xs ≡ ys)
 new-apart b c m n k l bytes more xs ys p q pb pc pm pn pk pl e =
     let front : (decimal b ++ (61 ∷ (bytes_shown bytes ++ (44 ∷ span m k)))) ++ xs ≡ (decimal c ++ (61 ∷ (bytes_shown more ++ (44 ∷ span n l)))) ++ ys = cc in
     let buffers = number-apart b c 61 (bytes_shown bytes ++ (44 ∷ span m k)) (bytes_shown more ++ (44 ∷ span n l)) xs ys pb pc (λ low high. omega arith) front in
     let contents = bytes-apart bytes more (44 ∷ (span m k ++ xs)) (44 ∷ (span n l ++ ys)) p q
-        (sym (append_assoc (bytes_shown bytes) (44 ∷ span m k) xs) ∙ buffers.1 ∙ append_assoc (bytes_shown more) (44 ∷ span n l) ys) in
+    (sym (append_assoc (bytes_shown bytes) (44 ∷ span m k) xs) ∙ buffers.1 ∙ append_assoc (bytes_shown more) (44 ∷ span n l) ys) in
     let spans = span-apart m n k l xs ys pm pn pk pl cc in
     (buffers.0, contents.0, spans.0, spans.1, spans.2)
 
@@ -203,7 +201,7 @@ mixed-apart : (b c : ℕ) (us vs xs ys : List ℕ) → b < 2 ^ 64 → c < 2 ^ 64
 mixed-apart b c us vs xs ys p q e =
     let front : (decimal b ++ (44 ∷ us)) ++ xs ≡ (decimal c ++ (61 ∷ vs)) ++ ys = cc in
     let h = decimal-apart b c (44 ∷ (us ++ xs)) (61 ∷ (vs ++ ys)) p q (λ low high. omega arith) (λ low high. omega arith)
-        (sym (append_assoc (decimal b) (44 ∷ us) xs) ∙ front ∙ append_assoc (decimal c) (61 ∷ vs) ys) in
+    (sym (append_assoc (decimal b) (44 ∷ us) xs) ∙ front ∙ append_assoc (decimal c) (61 ∷ vs) ys) in
     let wrong : ◌≡◌ {A = ℕ} 44 61 = let r = h.1 in cc in
     omega arith
 
@@ -277,21 +275,21 @@ listed-told p q inner_p inner_q show_p show_q wp wq splits make front c closer n
     let given = numbered-told number met start lp.given in
     let starts : start ≡ lq.start = some-same (numbered number met) start lq.start lp.given lq.given in
     let inside : ((list_shown show_p [] a (number + 1)).0 ++ (c ∷ [])) ++ xs ≡ ((list_shown show_q [] b (number + 1)).0 ++ (c ∷ [])) ++ ys =
-        cancel-front front _ _ (sym (append_assoc front _ xs) ∙ text ∙ append_assoc front _ ys) in
+    cancel-front front _ _ (sym (append_assoc front _ xs) ∙ text ∙ append_assoc front _ ys) in
     let apart : (list_shown show_p [] a (number + 1)).0 ++ (c ∷ xs) ≡ (list_shown show_q [] b (number + 1)).0 ++ (c ∷ ys) =
-        sym (append_assoc (list_shown show_p [] a (number + 1)).0 (c ∷ []) xs) ∙ inside ∙ append_assoc (list_shown show_q [] b (number + 1)).0 (c ∷ []) ys in
+    sym (append_assoc (list_shown show_p [] a (number + 1)).0 (c ∷ []) xs) ∙ inside ∙ append_assoc (list_shown show_q [] b (number + 1)).0 (c ∷ []) ys in
     let apart_at : (list_shown show_p [] a start.nodes).0 ++ (c ∷ xs) ≡ (list_shown show_q [] b start.nodes).0 ++ (c ∷ ys) =
-        subst (λ n. (list_shown show_p [] a n).0 ++ (c ∷ xs) ≡ (list_shown show_q [] b n).0 ++ (c ∷ ys)) (sym given.2) apart in
+    subst (λ n. (list_shown show_p [] a n).0 ++ (c ∷ xs) ≡ (list_shown show_q [] b n).0 ++ (c ∷ ys)) (sym given.2) apart in
     let t = list-splits p q inner_p inner_q show_p show_q wp wq splits a b start now after c xs ys closer
-        (fair-start p (make a) at_p (other a) fair_p) (fair-start q (make b) at_q (other b) fair_q)
-        lp.walked (subst (λ (m : Tally). in_turn inner_q b m ≡ Some after) (sym starts) lq.walked) apart_at in
+    (fair-start p (make a) at_p (other a) fair_p) (fair-start q (make b) at_q (other b) fair_q)
+    lp.walked (subst (λ (m : Tally). in_turn inner_q b m ≡ Some after) (sym starts) lq.walked) apart_at in
     record {
       same = ap make t.same;
       tally = t.tally;
       rest = t.rest;
       nodes = Agree-along p q met.nodes start.nodes now.nodes
           (Agree-at p q number start.nodes met.nodes start.nodes given.0 refl
-              (Agree-one p q number start.nodes (make a) at_p (at_q ∙ ap (λ l. Some (make l)) (sym t.same)) given.2))
+          (Agree-one p q number start.nodes (make a) at_p (at_q ∙ ap (λ l. Some (make l)) (sym t.same)) given.2))
           t.nodes;
     }
   where
@@ -300,8 +298,8 @@ listed-told p q inner_p inner_q show_p show_q wp wq splits make front c closer n
     fair-start nodes node at not_buffer fair =
         let given = numbered-told number met lp.start lp.given in
         Fair-at nodes (number + 1) lp.start.nodes (sym given.2)
-            (Fair-more nodes number (Fair-at nodes met.nodes number (sym given.0) fair) given.1
-                (λ bytes here. absurd (not_buffer bytes (let same : Some node ≡ Some (Buffer bytes) = sym at ∙ here in cc))))
+        (Fair-more nodes number (Fair-at nodes met.nodes number (sym given.0) fair) given.1
+        (λ bytes here. absurd (not_buffer bytes (let same : Some node ≡ Some (Buffer bytes) = sym at ∙ here in cc))))
 
 -- a node in which no node stands, met in both alike
 alone-told : (p q : List PNode) (number : ℕ) (x y : PNode) (met now after : Tally) (xs ys : List ℕ) → slice_get p number ≡ Some x → slice_get q number ≡ Some y
@@ -345,53 +343,53 @@ view-told p q number b c m n k l met now after xs ys at_p at_q fair_p fair_q vp 
     let lq = view-bounds q c n l met vq.behind fair_q tq in
     elim tp.when [
       | inl old ↦ elim tq.when [
-            | inl old' ↦
-                let told = old-apart b c m n k l xs ys lp.0 lq.0 lp.1 lq.1 lp.2 lq.2
-                    (sym (ap (λ t. t ++ xs) (ap (λ o. view_shown b m k o met.nodes) tp.is ∙ view-old b m k met.nodes tp.bytes old.0)) ∙ text
-                        ∙ ap (λ t. t ++ ys) (ap (λ o. view_shown c n l o met.nodes) tq.is ∙ view-old c n l met.nodes tq.bytes old'.0)) in
-                alone-told p q number (View b m k) (View c n l) met now after xs ys at_p at_q (vp.first ∙ ap (λ (t : Tally). t.nodes) old.1) vp.next
-                    (view-same b c m n k l told.0 told.1 told.2)
-                    (some-same (numbered number met) now after (ap (λ t. numbered number t) (sym old.1) ∙ vp.given)
-                        (ap (λ t. numbered number t) (sym old'.1) ∙ vq.given))
-                    told.3
-            | inr new ↦ absurd (mixed-apart b c (span m k) (bytes_shown tq.bytes ++ (44 ∷ span n l)) xs ys lp.0 lq.0
-                (sym (ap (λ t. t ++ xs) (ap (λ o. view_shown b m k o met.nodes) tp.is ∙ view-old b m k met.nodes tp.bytes old.0)) ∙ text
-                    ∙ ap (λ t. t ++ ys) (ap (λ o. view_shown c n l o met.nodes) tq.is ∙ view-new c n l met.nodes tq.bytes new.first)))
-          ]
+        | inl old' ↦
+            let told = old-apart b c m n k l xs ys lp.0 lq.0 lp.1 lq.1 lp.2 lq.2
+            (sym (ap (λ t. t ++ xs) (ap (λ o. view_shown b m k o met.nodes) tp.is ∙ view-old b m k met.nodes tp.bytes old.0)) ∙ text
+            ∙ ap (λ t. t ++ ys) (ap (λ o. view_shown c n l o met.nodes) tq.is ∙ view-old c n l met.nodes tq.bytes old'.0)) in
+            alone-told p q number (View b m k) (View c n l) met now after xs ys at_p at_q (vp.first ∙ ap (λ (t : Tally). t.nodes) old.1) vp.next
+            (view-same b c m n k l told.0 told.1 told.2)
+            (some-same (numbered number met) now after (ap (λ t. numbered number t) (sym old.1) ∙ vp.given)
+            (ap (λ t. numbered number t) (sym old'.1) ∙ vq.given))
+            told.3
+        | inr new ↦ absurd (mixed-apart b c (span m k) (bytes_shown tq.bytes ++ (44 ∷ span n l)) xs ys lp.0 lq.0
+            (sym (ap (λ t. t ++ xs) (ap (λ o. view_shown b m k o met.nodes) tp.is ∙ view-old b m k met.nodes tp.bytes old.0)) ∙ text
+            ∙ ap (λ t. t ++ ys) (ap (λ o. view_shown c n l o met.nodes) tq.is ∙ view-new c n l met.nodes tq.bytes new.first)))
+      ]
       | inr new ↦ elim tq.when [
-            | inl old ↦ absurd (mixed-apart c b (span n l) (bytes_shown tp.bytes ++ (44 ∷ span m k)) ys xs lq.0 lp.0
-                (sym (ap (λ t. t ++ ys) (ap (λ o. view_shown c n l o met.nodes) tq.is ∙ view-old c n l met.nodes tq.bytes old.0)) ∙ sym text
-                    ∙ ap (λ t. t ++ xs) (ap (λ o. view_shown b m k o met.nodes) tp.is ∙ view-new b m k met.nodes tp.bytes new.first)))
-            | inr new' ↦
-                let told = new-apart b c m n k l tp.bytes tq.bytes xs ys new.tested new'.tested lp.0 lq.0 lp.1 lq.1 lp.2 lq.2
-                    (sym (ap (λ t. t ++ xs) (ap (λ o. view_shown b m k o met.nodes) tp.is ∙ view-new b m k met.nodes tp.bytes new.first)) ∙ text
-                        ∙ ap (λ t. t ++ ys) (ap (λ o. view_shown c n l o met.nodes) tq.is ∙ view-new c n l met.nodes tq.bytes new'.first)) in
-                let behind : vp.behind ≡ vq.behind = some-same (numbered b met >>= with_contents tp.bytes) vp.behind vq.behind new.given
-                    (both-same b c tp.bytes tq.bytes told.0 told.1 ∙ new'.given) in
-                record {
-                  same = view-same b c m n k l told.0 told.2 told.3;
-                  tally = some-same (numbered number vp.behind) now after vp.given (ap (λ t. numbered number t) behind ∙ vq.given);
-                  rest = told.4;
-                  nodes = Agree-along p q met.nodes vp.behind.nodes now.nodes
-                      (Agree-at p q b vp.behind.nodes met.nodes vp.behind.nodes new.first refl
-                          (Agree-one p q b vp.behind.nodes (Buffer tp.bytes) tp.is
-                              (ap (λ i. slice_get q i) told.0 ∙ tq.is ∙ ap (λ bs. Some (Buffer bs)) (sym told.1)) new.next))
-                      (Agree-at p q number now.nodes vp.behind.nodes now.nodes vp.first refl
-                          (Agree-one p q number now.nodes (View b m k) at_p
-                              (at_q ∙ ap (λ v. Some v) (sym (view-same b c m n k l told.0 told.2 told.3))) vp.next));
-                }
-          ]
+        | inl old ↦ absurd (mixed-apart c b (span n l) (bytes_shown tp.bytes ++ (44 ∷ span m k)) ys xs lq.0 lp.0
+            (sym (ap (λ t. t ++ ys) (ap (λ o. view_shown c n l o met.nodes) tq.is ∙ view-old c n l met.nodes tq.bytes old.0)) ∙ sym text
+            ∙ ap (λ t. t ++ xs) (ap (λ o. view_shown b m k o met.nodes) tp.is ∙ view-new b m k met.nodes tp.bytes new.first)))
+        | inr new' ↦
+            let told = new-apart b c m n k l tp.bytes tq.bytes xs ys new.tested new'.tested lp.0 lq.0 lp.1 lq.1 lp.2 lq.2
+            (sym (ap (λ t. t ++ xs) (ap (λ o. view_shown b m k o met.nodes) tp.is ∙ view-new b m k met.nodes tp.bytes new.first)) ∙ text
+            ∙ ap (λ t. t ++ ys) (ap (λ o. view_shown c n l o met.nodes) tq.is ∙ view-new c n l met.nodes tq.bytes new'.first)) in
+            let behind : vp.behind ≡ vq.behind = some-same (numbered b met >>= with_contents tp.bytes) vp.behind vq.behind new.given
+            (both-same b c tp.bytes tq.bytes told.0 told.1 ∙ new'.given) in
+            record {
+              same = view-same b c m n k l told.0 told.2 told.3;
+              tally = some-same (numbered number vp.behind) now after vp.given (ap (λ t. numbered number t) behind ∙ vq.given);
+              rest = told.4;
+              nodes = Agree-along p q met.nodes vp.behind.nodes now.nodes
+                  (Agree-at p q b vp.behind.nodes met.nodes vp.behind.nodes new.first refl
+                  (Agree-one p q b vp.behind.nodes (Buffer tp.bytes) tp.is
+                  (ap (λ i. slice_get q i) told.0 ∙ tq.is ∙ ap (λ bs. Some (Buffer bs)) (sym told.1)) new.next))
+                  (Agree-at p q number now.nodes vp.behind.nodes now.nodes vp.first refl
+                  (Agree-one p q number now.nodes (View b m k) at_p
+                  (at_q ∙ ap (λ v. Some v) (sym (view-same b c m n k l told.0 told.2 told.3))) vp.next));
+            }
+      ]
     ]
   where
     view-same : (b c m n k l : ℕ) → b ≡ c → m ≡ n → k ≡ l → View b m k ≡ View c n l
     view-same b c m n k l e f g = rw (e, f, g) refl
+
     both-same : (b c : ℕ) (bytes more : List ℕ) → b ≡ c → bytes ≡ more
         → (numbered b met >>= with_contents bytes) ≡ (numbered c met >>= with_contents more)
     both-same b c bytes more e f = rw (e, f) refl
 
 module _ (p q : List PNode) (visit_p visit_q : Item → Tally → Option Tally) (show_p show_q : Item → ℕ → Shown)
     (wp : Walks p visit_p show_p) (wq : Walks q visit_q show_q) (splits : Splits p q visit_p visit_q show_p show_q) where
-
   node-by : (number : ℕ) (x y : PNode) (met now after : Tally) (xs ys : List ℕ) → SameKind x y → slice_get p number ≡ Some x → slice_get q number ≡ Some y
       → Fair p met.nodes → Fair q met.nodes → node_met visit_p p number x met ≡ Some now → node_met visit_q q number y met ≡ Some after
       → (node_shown show_p p number x met.nodes).0 ++ xs ≡ (node_shown show_q q number y met.nodes).0 ++ ys
@@ -399,28 +397,28 @@ module _ (p q : List PNode) (visit_p visit_q : Item → Tally → Option Tally) 
   unfolding node_shown node_met contents_met
   node-by number x y met now after xs ys (objects a b) at_p at_q fair_p fair_q e f text =
       listed-told p q (visit_property visit_p) (visit_property visit_q) (property_shown show_p) (property_shown show_q)
-          (property-walks p visit_p show_p wp) (property-walks q visit_q show_q wq) (property-splits p q visit_p visit_q show_p show_q wp wq splits)
-          (λ l. Object l) (codes "{") 125 (inr refl) number a b met now after xs ys at_p at_q (λ l bytes same. cc) fair_p fair_q
-          (node-told visit_p p number (Object a) met now e) (node-told visit_q q number (Object b) met after f) text
+      (property-walks p visit_p show_p wp) (property-walks q visit_q show_q wq) (property-splits p q visit_p visit_q show_p show_q wp wq splits)
+      (λ l. Object l) (codes "{") 125 (inr refl) number a b met now after xs ys at_p at_q (λ l bytes same. cc) fair_p fair_q
+      (node-told visit_p p number (Object a) met now e) (node-told visit_q q number (Object b) met after f) text
   node-by number x y met now after xs ys (arrays a b) at_p at_q fair_p fair_q e f text =
       listed-told p q visit_p visit_q show_p show_q wp wq splits
-          (λ l. Array l) (codes "[") 93 (inl refl) number a b met now after xs ys at_p at_q (λ l bytes same. cc) fair_p fair_q
-          (node-told visit_p p number (Array a) met now e) (node-told visit_q q number (Array b) met after f) text
+      (λ l. Array l) (codes "[") 93 (inl refl) number a b met now after xs ys at_p at_q (λ l bytes same. cc) fair_p fair_q
+      (node-told visit_p p number (Array a) met now e) (node-told visit_q q number (Array b) met after f) text
   node-by number x y met now after xs ys (maps a b) at_p at_q fair_p fair_q e f text =
       listed-told p q (visit_entry visit_p) (visit_entry visit_q) (entry_shown show_p) (entry_shown show_q)
-          (entry-walks p visit_p show_p wp) (entry-walks q visit_q show_q wq) (entry-splits p q visit_p visit_q show_p show_q wp wq splits)
-          (λ l. Map l) (codes "map[") 93 (inl refl) number a b met now after xs ys at_p at_q (λ l bytes same. cc) fair_p fair_q
-          (node-told visit_p p number (Map a) met now e) (node-told visit_q q number (Map b) met after f) text
+      (entry-walks p visit_p show_p wp) (entry-walks q visit_q show_q wq) (entry-splits p q visit_p visit_q show_p show_q wp wq splits)
+      (λ l. Map l) (codes "map[") 93 (inl refl) number a b met now after xs ys at_p at_q (λ l bytes same. cc) fair_p fair_q
+      (node-told visit_p p number (Map a) met now e) (node-told visit_q q number (Map b) met after f) text
   node-by number x y met now after xs ys (sets a b) at_p at_q fair_p fair_q e f text =
       listed-told p q visit_p visit_q show_p show_q wp wq splits
-          (λ l. Set l) (codes "set[") 93 (inl refl) number a b met now after xs ys at_p at_q (λ l bytes same. cc) fair_p fair_q
-          (node-told visit_p p number (Set a) met now e) (node-told visit_q q number (Set b) met after f) text
+      (λ l. Set l) (codes "set[") 93 (inl refl) number a b met now after xs ys at_p at_q (λ l bytes same. cc) fair_p fair_q
+      (node-told visit_p p number (Set a) met now e) (node-told visit_q q number (Set b) met after f) text
   node-by number x y met now after xs ys (errors j k m n) at_p at_q fair_p fair_q e f text =
       let tp = node-told visit_p p number (Error j m) met now e in
       let tq = node-told visit_q q number (Error k n) met after f in
       let told = error-apart j k m n xs ys tp.tested tq.tested text in
       alone-told p q number (Error j m) (Error k n) met now after xs ys at_p at_q tp.first tp.next (error-same j k m n told.0 told.1)
-          (some-same (numbered number met >>= with_message m) now after e (ap (λ t. numbered number met >>= with_message t) told.1 ∙ f)) told.2
+      (some-same (numbered number met >>= with_message m) now after e (ap (λ t. numbered number met >>= with_message t) told.1 ∙ f)) told.2
     where
       error-same : (j k : ErrorKind) (m n : Option (List ℕ)) → j ≡ k → m ≡ n → Error j m ≡ Error k n
       error-same j k m n e f = rw (e, f) refl
@@ -429,16 +427,16 @@ module _ (p q : List PNode) (visit_p visit_q : Item → Tally → Option Tally) 
       let tq = node-told visit_q q number (Port n) met after f in
       let told = port-apart m n xs ys tp.tested tq.tested text in
       alone-told p q number (Port m) (Port n) met now after xs ys at_p at_q tp.first tp.next (ap (λ t. Port t) told.0)
-          (some-same (numbered number met >>= only_if (is_word m)) now after e (ap (λ t. numbered number met >>= only_if (is_word t)) told.0 ∙ f)) told.1
+      (some-same (numbered number met >>= only_if (is_word m)) now after e (ap (λ t. numbered number met >>= only_if (is_word t)) told.0 ∙ f)) told.1
   node-by number x y met now after xs ys (buffers a b) at_p at_q fair_p fair_q e f text =
       let tp = node-told visit_p p number (Buffer a) met now e in
       let tq = node-told visit_q q number (Buffer b) met after f in
       let told = bytes-apart a b xs ys tp.tested tq.tested text in
       alone-told p q number (Buffer a) (Buffer b) met now after xs ys at_p at_q tp.first tp.next (ap (λ t. Buffer t) told.0)
-          (some-same (numbered number met >>= with_contents a) now after e (ap (λ t. numbered number met >>= with_contents t) told.0 ∙ f)) told.1
+      (some-same (numbered number met >>= with_contents a) now after e (ap (λ t. numbered number met >>= with_contents t) told.0 ∙ f)) told.1
   node-by number x y met now after xs ys (views b c m n k l) at_p at_q fair_p fair_q e f text =
       view-told p q number b c m n k l met now after xs ys at_p at_q fair_p fair_q
-          (node-told visit_p p number (View b m k) met now e) (node-told visit_q q number (View c n l) met after f) text
+      (node-told visit_p p number (View b m k) met now e) (node-told visit_q q number (View c n l) met after f) text
 
   pub node-splits : (number : ℕ) (x y : PNode) (met now after : Tally) (xs ys : List ℕ) → slice_get p number ≡ Some x → slice_get q number ≡ Some y
       → Fair p met.nodes → Fair q met.nodes → node_met visit_p p number x met ≡ Some now → node_met visit_q q number y met ≡ Some after
@@ -454,7 +452,7 @@ module _ (p q : List PNode) (visit_p visit_q : Item → Tally → Option Tally) 
       → (if test then Some met else found_p >>= λ node. node_met visit_p p number node met) ≡ Some now
       → (if test then Some met else found_q >>= λ node. node_met visit_q q number node met) ≡ Some after
       → (if test then ([], met.nodes) else first_shown show_p p number found_p met.nodes).0 ++ xs
-          ≡ (if test then ([], met.nodes) else first_shown show_q q number found_q met.nodes).0 ++ ys
+      ≡ (if test then ([], met.nodes) else first_shown show_q q number found_q met.nodes).0 ++ ys
       → (now ≡ after) × (xs ≡ ys) × Agree p q met.nodes now.nodes
   reference-splits number true found_p found_q met now after xs ys at_p at_q fair_p fair_q e f text = met-same met now after xs ys e f text
     where

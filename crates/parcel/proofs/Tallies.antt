@@ -1,9 +1,9 @@
 -- What a walk that went on tells: the tests held, and the numbers went on so.
-use Rattle.std.proofs.Common.{◌≡◌, ℕ, zero, suc, ◌+◌, ◌<◌, ◌≤◌, ◌⊎◌, inl, inr, Bool, true, false, if◌then◌else◌, nat_lt, nat_le, ◌&&◌, List, [], ◌∷◌, length, slice_get, Option, Some, None, refl, sym, ap, ◌∙◌, subst, arith}
+use Rattle.std.proofs.Common.{◌≡◌, ℕ, ◌+◌, ◌<◌, ◌≤◌, ◌⊎◌, inl, inr, Bool, true, false, if◌then◌else◌, nat_lt, nat_le, List, length, Option, Some, None, refl, sym, ap, ◌∙◌, subst, arith}
 use Rattle.std.proofs.lemmas.Bool.Decides.{eqb_tells, leb_tells}
 use Rattle.std.proofs.Math.Dec.{eqb}
 use borrow.Author.Tests.{ltb-true}
-use Rattle.parcel.specs.Checked.{◌>>=◌, with_node, with_item, with_units, only_if, is_text, is_contents, with_text, with_contents, with_message, numbered, in_turn, buffer_met}
+use Rattle.parcel.specs.Checked.{◌>>=◌, with_node, with_item, with_units, only_if, is_text, is_contents, with_text, with_contents, numbered, buffer_met}
 use Rattle.parcel.specs.declared.parcel.PNode.{PNode}
 use Rattle.parcel.specs.declared.parcel.PNode.TheVariants.{Object, Array, Error, Map, Set, Port, Buffer, View}
 use Rattle.parcel.specs.declared.tally.Tally.{Tally}
@@ -91,11 +91,11 @@ buffer-told buffer offset size (Some (Port place)) met now e = absurd cc
 buffer-told buffer offset size (Some (View inner start span)) met now e = absurd cc
 buffer-told buffer offset size (Some (Buffer bytes)) met now e =
     let steps = both (only_if (nat_le (offset + size) (length bytes)) met)
-        (λ found. if nat_lt buffer found.nodes then Some found else numbered buffer found >>= with_contents bytes) now e in
+    (λ found. if nat_lt buffer found.nodes then Some found else numbered buffer found >>= with_contents bytes) now e in
     let test = only_if-told (nat_le (offset + size) (length bytes)) met steps.0 steps.1 in
     let fits : offset + size ≤ length bytes = elim (leb_tells (offset + size) (length bytes)) [ inl fine ↦ fine.1 | inr past ↦ absurd (let h = sym test.0 ∙ past.0 in cc) ] in
     let rest : (if nat_lt buffer met.nodes then Some met else numbered buffer met >>= with_contents bytes) ≡ Some now =
-        subst (λ (found : Tally). (if nat_lt buffer found.nodes then Some found else numbered buffer found >>= with_contents bytes) ≡ Some now) test.1 steps.2 in
+    subst (λ (found : Tally). (if nat_lt buffer found.nodes then Some found else numbered buffer found >>= with_contents bytes) ≡ Some now) test.1 steps.2 in
     record { bytes = bytes; is = refl; within = fits; when = by_number (nat_lt buffer met.nodes) refl rest }
   where
     by_number : (test : Bool) → nat_lt buffer met.nodes ≡ test

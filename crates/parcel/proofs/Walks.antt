@@ -1,6 +1,6 @@
 -- A walk and what is shown go along with the same numbers.
-use Rattle.std.proofs.Common.{◌≡◌, ℕ, zero, suc, ◌+◌, ◌^◌, ◌<◌, ◌≤◌, ◌⊎◌, inl, inr, Bool as Boolean, true, false, if◌then◌else◌, nat_lt, List, [], ◌∷◌, ◌++◌, length, map, slice_get, Option, Some, None, ℤ, pos, negsuc, refl, sym, ap, ◌∙◌, subst, append_assoc, arith}
-use Rattle.std.specs.Fmt.{decimal, signed_decimal}
+use Rattle.std.proofs.Common.{◌≡◌, ℕ, zero, suc, ◌+◌, ◌^◌, ◌<◌, ◌≤◌, ◌⊎◌, inl, inr, Bool as Boolean, true, false, if◌then◌else◌, nat_lt, List, [], ◌∷◌, ◌++◌, length, slice_get, Option, Some, None, ℤ, pos, negsuc, refl, sym, ap, ◌∙◌, subst, append_assoc, arith}
+use Rattle.std.specs.Fmt.{decimal}
 use Rattle.std.specs.List.{list_all}
 use Rattle.std.proofs.lemmas.Bool.{and_parts}
 use Rattle.std.proofs.lemmas.Bool.Decides.{leb_tells}
@@ -8,7 +8,7 @@ use Rattle.std.proofs.Math.Dec.{leb}
 use Rattle.std.proofs.lemmas.Fmt.{decimal_nonempty}
 use borrow.Author.Tests.{ltb-true}
 use Rattle.wl_text.specs.Text.{quoted}
-use Rattle.parcel.specs.Checked.{◌>>=◌, is_safe, is_contents, with_item, only_if, with_text, numbered, in_turn, visit_property, visit_entry, node_met, reference_met, value_met, item_met}
+use Rattle.parcel.specs.Checked.{◌>>=◌, is_safe, is_contents, with_item, with_text, numbered, in_turn, visit_property, visit_entry, node_met, value_met, item_met}
 use Rattle.parcel.specs.Text.{Shown, list_shown, property_shown, entry_shown, item_name, node_shown, first_shown, rest_shown, item_shown}
 use Rattle.parcel.specs.declared.parcel.Side.TheVariants.{Own, Far}
 use Rattle.parcel.specs.declared.parcel.Item.{Item}
@@ -19,7 +19,7 @@ use Rattle.parcel.specs.declared.tally.Tally.{Tally}
 use Rattle.parcel.proofs.Agree.{Fair, Fair-more, Fair-at}
 use Rattle.parcel.proofs.Prefixes.{IsDigit, AreDigits, AreDigits-decimal}
 use Rattle.parcel.proofs.Tallies.{both, only_if-told, with_item-told, numbered-told, with_text-told}
-use Rattle.parcel.proofs.NodeMet.{Listed, Alone, Viewed, NodeTold, node-told}
+use Rattle.parcel.proofs.NodeMet.{Listed, node-told}
 
 -- the bracket at the end of a list
 abbrev pub IsCloser : ℕ → Type 0
@@ -85,19 +85,19 @@ module _ (nodes : List PNode) (visit : Item → Tally → Option Tally) (show : 
   node-counts number (Object properties) met now next e =
       let t = node-told visit nodes number (Object properties) met now e in
       subst (λ n. (list_shown (property_shown show) [] properties n).1 ≡ now.nodes) (start-at number met t.start t.given)
-          (list-counts nodes (visit_property visit) (property_shown show) property-walks [] properties t.start now t.walked)
+      (list-counts nodes (visit_property visit) (property_shown show) property-walks [] properties t.start now t.walked)
   node-counts number (Array items) met now next e =
       let t = node-told visit nodes number (Array items) met now e in
       subst (λ n. (list_shown show [] items n).1 ≡ now.nodes) (start-at number met t.start t.given)
-          (list-counts nodes visit show w [] items t.start now t.walked)
+      (list-counts nodes visit show w [] items t.start now t.walked)
   node-counts number (Map entries) met now next e =
       let t = node-told visit nodes number (Map entries) met now e in
       subst (λ n. (list_shown (entry_shown show) [] entries n).1 ≡ now.nodes) (start-at number met t.start t.given)
-          (list-counts nodes (visit_entry visit) (entry_shown show) entry-walks [] entries t.start now t.walked)
+      (list-counts nodes (visit_entry visit) (entry_shown show) entry-walks [] entries t.start now t.walked)
   node-counts number (Set items) met now next e =
       let t = node-told visit nodes number (Set items) met now e in
       subst (λ n. (list_shown show [] items n).1 ≡ now.nodes) (start-at number met t.start t.given)
-          (list-counts nodes visit show w [] items t.start now t.walked)
+      (list-counts nodes visit show w [] items t.start now t.walked)
   node-counts number (Error kind message) met now next e = sym (node-told visit nodes number (Error kind message) met now e).next
   node-counts number (Port place) met now next e = sym (node-told visit nodes number (Port place) met now e).next
   node-counts number (Buffer bytes) met now next e = sym (node-told visit nodes number (Buffer bytes) met now e).next
@@ -108,8 +108,8 @@ module _ (nodes : List PNode) (visit : Item → Tally → Option Tally) (show : 
       → slice_get nodes number ≡ Some node → ((bytes : List ℕ) → node ≡ Buffer bytes → length bytes ≤ 1_048_576) → Fair nodes next
   one-keeps number next node met fair first low e at short =
       Fair-at nodes (number + 1) next (sym e)
-          (Fair-more nodes number (Fair-at nodes met.nodes number (sym first) fair) low
-              (λ bytes here. short bytes (let same : Some node ≡ Some (Buffer bytes) = sym at ∙ here in cc)))
+      (Fair-more nodes number (Fair-at nodes met.nodes number (sym first) fair) low
+      (λ bytes here. short bytes (let same : Some node ≡ Some (Buffer bytes) = sym at ∙ here in cc)))
 
   listed-keeps : {A : Type 0} (inner : A → Tally → Option Tally) (number : ℕ) (node : PNode) (xs : List A) (met now : Tally)
       → ((start : Tally) → in_turn inner xs start ≡ Some now → Fair nodes start.nodes → Fair nodes now.nodes)
@@ -131,18 +131,18 @@ module _ (nodes : List PNode) (visit : Item → Tally → Option Tally) (show : 
       → Fair nodes met.nodes → Fair nodes now.nodes
   node-keeps number (Object properties) met now at e fair =
       listed-keeps (visit_property visit) number (Object properties) properties met now
-          (λ start walked before. list-keeps nodes (visit_property visit) (property_shown show) property-walks properties start now walked before)
-          (node-told visit nodes number (Object properties) met now e) at (λ bytes same. cc) fair
+      (λ start walked before. list-keeps nodes (visit_property visit) (property_shown show) property-walks properties start now walked before)
+      (node-told visit nodes number (Object properties) met now e) at (λ bytes same. cc) fair
   node-keeps number (Array items) met now at e fair =
       listed-keeps visit number (Array items) items met now (λ start walked before. list-keeps nodes visit show w items start now walked before)
-          (node-told visit nodes number (Array items) met now e) at (λ bytes same. cc) fair
+      (node-told visit nodes number (Array items) met now e) at (λ bytes same. cc) fair
   node-keeps number (Map entries) met now at e fair =
       listed-keeps (visit_entry visit) number (Map entries) entries met now
-          (λ start walked before. list-keeps nodes (visit_entry visit) (entry_shown show) entry-walks entries start now walked before)
-          (node-told visit nodes number (Map entries) met now e) at (λ bytes same. cc) fair
+      (λ start walked before. list-keeps nodes (visit_entry visit) (entry_shown show) entry-walks entries start now walked before)
+      (node-told visit nodes number (Map entries) met now e) at (λ bytes same. cc) fair
   node-keeps number (Set items) met now at e fair =
       listed-keeps visit number (Set items) items met now (λ start walked before. list-keeps nodes visit show w items start now walked before)
-          (node-told visit nodes number (Set items) met now e) at (λ bytes same. cc) fair
+      (node-told visit nodes number (Set items) met now e) at (λ bytes same. cc) fair
   node-keeps number (Error kind message) met now at e fair =
       let t = node-told visit nodes number (Error kind message) met now e in
       one-keeps number now.nodes (Error kind message) met fair t.first t.low t.next at (λ bytes same. absurd cc)
@@ -156,9 +156,9 @@ module _ (nodes : List PNode) (visit : Item → Tally → Option Tally) (show : 
       let t = node-told visit nodes number (View buffer offset size) met now e in
       let b = t.buffer_told in
       let behind : Fair nodes t.behind.nodes = elim b.when [
-            | inl old ↦ Fair-at nodes met.nodes t.behind.nodes (sym (ap (λ (m : Tally). m.nodes) old.1)) fair
-            | inr new ↦ one-keeps buffer t.behind.nodes (Buffer b.bytes) met fair new.first new.low new.next b.is (λ more same. buffer-short b.bytes more new.tested same)
-          ] in
+        | inl old ↦ Fair-at nodes met.nodes t.behind.nodes (sym (ap (λ (m : Tally). m.nodes) old.1)) fair
+        | inr new ↦ one-keeps buffer t.behind.nodes (Buffer b.bytes) met fair new.first new.low new.next b.is (λ more same. buffer-short b.bytes more new.tested same)
+      ] in
       one-keeps number now.nodes (View buffer offset size) t.behind behind t.first t.low t.next at (λ bytes same. absurd cc)
 
   reference-by : (number : ℕ) (test : Boolean) (found : Option PNode) (met now : Tally) → slice_get nodes number ≡ found
@@ -243,13 +243,13 @@ item-walks (suc depth) nodes =
       counts = λ x met now e.
           let steps = both (with_item met) (value_met visit nodes x) now e in
           subst (λ n. (rest_shown show nodes x n).1 ≡ now.nodes) (with_item-told met steps.0 steps.1)
-              (value-walked nodes visit show w x steps.0 now steps.2).0;
+          (value-walked nodes visit show w x steps.0 now steps.2).0;
       keeps = λ x met now e fair.
           let steps = both (with_item met) (value_met visit nodes x) now e in
           (value-walked nodes visit show w x steps.0 now steps.2).1
-              (Fair-at nodes met.nodes steps.0.nodes (sym (with_item-told met steps.0 steps.1)) fair);
+          (Fair-at nodes met.nodes steps.0.nodes (sym (with_item-told met steps.0 steps.1)) fair);
       opens = λ x met now c more rest e closer text.
           let steps = both (with_item met) (value_met visit nodes x) now e in
           name-opens x c ((rest_shown show nodes x met.nodes).0 ++ more) rest (number-safe visit nodes x steps.0 now steps.2) closer
-              (sym (append_assoc (item_name x) (rest_shown show nodes x met.nodes).0 more) ∙ text);
+          (sym (append_assoc (item_name x) (rest_shown show nodes x met.nodes).0 more) ∙ text);
     }
