@@ -1,1 +1,9 @@
+pub mod Characters
+pub mod Gaps
+pub mod Literals
 pub mod Marks
+pub mod Nesting
+pub mod Numbers
+pub mod Reading
+pub mod Tokens
+pub mod Words

@@ -1,7 +1,16 @@
 //! Tokens of a script.
 #![tactic(auto)]
 
+mod characters;
+mod gaps;
+mod literals;
 pub mod mark;
+mod marks;
+mod nesting;
+mod numbers;
+mod scan;
 mod token;
+mod words;
 
+pub use scan::tokens;
 pub use token::{LexFault, LexKind, Token, TokenKind};
