@@ -6,4 +6,5 @@ pub mod NestingLemmas
 pub mod Places
 pub mod Texts
 pub mod TokenLists
+pub mod Utf16
 pub mod Values

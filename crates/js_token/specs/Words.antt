@@ -2,7 +2,8 @@
 use Rattle.std.specs.Prelude.{ℕ, ◌==◌, ◌&&◌, ◌||◌, Bool, true, false, not, List, [], ◌∷◌, ◌++◌, Option, Some, None, nat_eq, codes, if◌then◌else◌}
 use Rattle.std.specs.List.{list_any}
 use Rattle.std.specs.Cmp.Lexicographic.{pointwise}
-use Rattle.std.specs.Char.Utf16.{utf16_chars}
+use Rattle.std.specs.Option.{option_map}
+use Rattle.std.specs.Char.Utf16.{utf16_chars, lone_unit_char, is_high_surrogate, is_low_surrogate, surrogate_pair_char}
 use Rattle.std.specs.Char.Escape.{encode_utf16}
 use Rattle.js_token.specs.declared.characters.Placed.{Placed}
 use Rattle.unicode_ident.specs.Ident.{is_xid_start, is_xid_continue}
@@ -40,6 +41,15 @@ rest_of_name (c ∷ rest) = if continues_name c.symbol then with_front (encode_u
 -- The units of the name that begins with this character, and what stands behind it.
 unfoldable pub name_at : Placed → List Placed → List ℕ × List Placed
 name_at c rest = with_front (encode_utf16 c.symbol) (rest_of_name rest)
+
+-- the character in front of UTF-16 units, if it is no surrogate without a partner, and the units behind it
+abbrev pub lone_character : ℕ → List ℕ → Option (ℕ × List ℕ)
+lone_character unit rest = option_map (λ c. (c, rest)) (lone_unit_char unit)
+
+abbrev pub character_at : ℕ → List ℕ → Option (ℕ × List ℕ)
+character_at unit [] = lone_character unit []
+character_at unit (low ∷ rest) = if is_high_surrogate unit && is_low_surrogate low
+    then Some (surrogate_pair_char unit low, rest) else lone_character unit (low ∷ rest)
 
 -- Whether the characters of a text, of which a surrogate with no partner is none, are those of a name.
 abbrev pub continue_name : List (Option ℕ) → Bool

@@ -14,3 +14,4 @@ mod words;
 
 pub use scan::tokens;
 pub use token::{LexFault, LexKind, Token, TokenKind};
+pub use words::is_name;
