@@ -15,3 +15,6 @@ mod words;
 pub use scan::tokens;
 pub use token::{LexFault, LexKind, Token, TokenKind};
 pub use words::is_name;
+
+#[cfg(test)]
+mod tests;
