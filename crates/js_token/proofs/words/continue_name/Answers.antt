@@ -1,4 +1,4 @@
-use Rattle.std.proofs.Common.{◌≡◌, ◌∙◌, ap, sym}
+use Rattle.std.proofs.Common.{sym}
 use Rattle.js_token.proofs.Utf16.{continue_name-turn, continue_name-other, continue_name-none, continue_name-end}
 use Rattle.js_token.proofs.words.continue_name.Goals as goal
 
