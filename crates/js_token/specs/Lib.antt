@@ -1,5 +1,6 @@
 pub mod Characters
 pub mod Gaps
+pub mod Lists
 pub mod Literals
 pub mod Marks
 pub mod Nesting

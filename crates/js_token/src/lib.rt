@@ -3,6 +3,7 @@
 
 mod characters;
 mod gaps;
+mod laws;
 mod literals;
 pub mod mark;
 mod marks;
@@ -12,6 +13,7 @@ mod scan;
 mod token;
 mod words;
 
+pub use laws::{places_ascend, templates_nest, tokens_end_once};
 pub use scan::tokens;
 pub use token::{LexFault, LexKind, Token, TokenKind};
 pub use words::is_name;
