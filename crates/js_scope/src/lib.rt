@@ -7,6 +7,8 @@ mod fault;
 mod names;
 mod place;
 mod rules;
+#[cfg(test)]
+mod tests;
 
 pub use check::check_scope;
 pub use fault::{ScopeFault, ScopeKind};
