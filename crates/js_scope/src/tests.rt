@@ -1014,9 +1014,13 @@ fn the_first_node_that_breaks_a_rule_is_told(rt: HostRuntime) -> Result<(), Fail
     Ok(())
 }
 
+fn numbered(alloc: Global, number: u32) -> Result<Units, Fail> {
+    Ok(number_text(alloc, i64::from(number))?)
+}
+
 // A declaration of a name of its own.
 fn declare(alloc: Global, tree: &mut Tree, number: u32) -> Result<NodeId, Fail> {
-    let name = Node::BindName(number_text(alloc, i64::from(number))?);
+    let name = Node::BindName(numbered(alloc, number)?);
     let bind = put(alloc, tree, name)?;
     let mut pairs = Items::new(alloc);
     pairs.push(Declarator { bind, value: None })?;
@@ -1061,7 +1065,7 @@ fn large_scripts_are_checked(rt: HostRuntime) -> Result<(), Fail> {
     let mut tree = Tree::new(rt.alloc());
     let mut items = Vec::new(rt.alloc());
     for number in 0..20_000 {
-        let name = number_text(rt.alloc(), number)?;
+        let name = numbered(rt.alloc(), number)?;
         let body = put(rt.alloc(), &mut tree, Node::Block(Items::new(rt.alloc())))?;
         let function = Function {
             parameters: Items::new(rt.alloc()),
