@@ -1,5 +1,5 @@
 -- In a tree the children of a node stand before it, and so do the parts that declare names.
-use Rattle.std.proofs.Common.{◌≡◌, ℕ, ◌<◌, List, [], ◌∷◌, ◌++◌, length, map, Option, Some, None, IfSome, refl, sym, ◌∙◌, ap, subst, arith}
+use Rattle.std.proofs.Common.{◌≡◌, ℕ, ◌<◌, List, [], ◌∷◌, ◌++◌, length, map, Option, Some, None, IfSome, refl, subst, arith}
 use Rattle.std.proofs.lemmas.List.Elements.{recursion_from_All, All-from_recursion}
 use Rattle.std.proofs.lemmas.Option.{slice_get_within}
 use Rattle.std.specs.List.{flat_map, AllByRecursion, slice_get}
@@ -8,8 +8,8 @@ use Rattle.js_tree.specs.declared.node.NodeId.{NodeId}
 use Rattle.js_tree.specs.declared.node.Function.{Function}
 use Rattle.js_tree.specs.declared.node.PropertyKey.{PropertyKey}
 use Rattle.js_tree.specs.declared.node.Node.{Node}
-use Rattle.js_tree.specs.declared.node.Node.TheVariants.{Script, Block, Let, Const, FunDecl, For, ForOf, Try, Fun, Arrow, Method, Getter, Setter, BindName, BindObject, BindArray}
-use Rattle.js_tree.specs.Children.{one, given, all_of, of_elements, of_key, of_function, children}
+use Rattle.js_tree.specs.declared.node.Node.TheVariants.{Script, Block, Let, Const, FunDecl, For, ForOf, Try, Fun, Arrow, Method, Getter, Setter, BindObject, BindArray}
+use Rattle.js_tree.specs.Children.{one, given, of_elements, of_key, of_function, children}
 use Rattle.js_tree.specs.Nodes.{Nodes, node_at, StandsBelow, IsTree}
 use Rattle.js_scope.specs.declared.place.Place.{Place}
 use Rattle.js_scope.specs.Names.{binding_parts, binding_parts_at, items_in, items_at, function_of, function_parts, catch_parts, other_parts, scope_parts}

@@ -1,5 +1,5 @@
 -- The early errors of a script (ECMA-262, 17): the nodes that break a rule, in source order.
-use Rattle.std.specs.Prelude.{◌≡◌, ℕ, ◌-◌, List, [], length, false, Option, Some, Result, Ok, Err, slice_get}
+use Rattle.std.specs.Prelude.{◌≡◌, ℕ, ◌-◌, List, [], length, false, Some, Result, Ok, Err, slice_get}
 use Rattle.std.specs.List.{filter_map}
 use Rattle.js_tree.specs.Nodes.{Nodes}
 use Rattle.js_scope.specs.declared.fault.ScopeKind.{ScopeKind}

@@ -1,6 +1,6 @@
 -- The rules that a node may break (ECMA-262: 13.1.1, 13.2.5.1, 13.5.1.1, 13.15.1, 14.2.1, 14.8.1, 14.9.1, 14.10 and
 -- 15.1.1), for the part of the language that is read here.
-use Rattle.std.specs.Prelude.{ℕ, List, [], ◌∷◌, map, Bool as Boolean, true, false, ◌==◌, ◌&&◌, ◌||◌, not, nat_eq, Option, Some, None, is_some, codes, find}
+use Rattle.std.specs.Prelude.{ℕ, List, [], ◌∷◌, map, Bool as Boolean, true, false, ◌&&◌, ◌||◌, not, nat_eq, Option, Some, is_some, codes, find}
 use Rattle.std.specs.List.{list_any}
 use Rattle.std.specs.Option.{option_map, option_and_then, option_map_or}
 use Rattle.std.specs.Cmp.Lexicographic.{pointwise}

@@ -1,4 +1,4 @@
-use Rattle.std.proofs.Common.{◌≡◌, [], ◌∷◌, ◌∙◌, sym, ap, length, arith}
+use Rattle.std.proofs.Common.{◌≡◌, [], ◌∷◌, ◌∙◌, ap, length, arith}
 use Rattle.js_scope.specs.Faults.{faults, top}
 use Rattle.js_scope.proofs.Trees.{stands_in}
 use Rattle.js_scope.proofs.Places.{places_turn, places_stand, faults_first, stands_at_first, fault_told, none_told, faults_none, top_is}

@@ -1,4 +1,4 @@
-use Rattle.std.proofs.Common.{◌≡◌, ap, ◌++◌, ◌∙◌, sym, [], length, reverse, vec_len, arith}
+use Rattle.std.proofs.Common.{◌≡◌, ap, ◌++◌, ◌∙◌, sym, [], length, reverse, arith}
 use Rattle.js_scope.specs.Names.{names, repeats, scope_parts}
 use Rattle.js_scope.proofs.Found.{found_first, stands_first, names_turn, stands_after, left_turn, found_last}
 use Rattle.js_scope.proofs.names.push_repeats.Goals as goal

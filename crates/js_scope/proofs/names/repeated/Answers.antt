@@ -1,7 +1,6 @@
-use Rattle.std.proofs.Common.{◌≡◌, ◌∙◌, ap, sym, ◌++◌, length, take, nat_eq, arith}
-use Rattle.std.proofs.lemmas.List.{take_all}
-use Rattle.std.specs.List.{list_any, flat_map}
-use Rattle.js_scope.specs.Names.{repeated, repeated_in}
+use Rattle.std.proofs.Common.{◌∙◌, ap, sym, ◌++◌, nat_eq, arith}
+use Rattle.std.specs.List.{list_any}
+use Rattle.js_scope.specs.Names.{repeated_in}
 use Rattle.js_scope.proofs.Found.{taken_turn, taken_last}
 use Rattle.js_scope.proofs.Trees.{stands_in}
 use Rattle.js_scope.proofs.names.repeated.Goals as goal

@@ -1,5 +1,4 @@
 use Rattle.std.proofs.Common.{◌≡◌, ◌++◌, map, reverse, vec_len}
-use Rattle.js_tree.specs.Children.{children}
 use Rattle.js_scope.specs.Rules.{within}
 use Rattle.js_scope.proofs.rules.push_parts.Given as goal
 
