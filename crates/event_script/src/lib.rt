@@ -4,6 +4,8 @@
 mod line;
 mod parts;
 mod script;
+#[cfg(test)]
+mod tests;
 
 pub use line::{Line, LineFault, LineKind};
 pub use script::read_script;
