@@ -1,0 +1,5 @@
+pub mod Laws
+pub mod Local
+pub mod Sets
+pub mod Complete
+pub mod Steps

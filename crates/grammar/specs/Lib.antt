@@ -1,0 +1,6 @@
+pub mod Kinds
+pub mod Grammar
+pub mod Reading
+pub mod Tests
+pub mod Steps
+pub mod Promises

@@ -1,0 +1,83 @@
+-- Tests of a grammar's rules, which compute: the next token always tells what to do, and what stands before a fault can be completed.
+use Rattle.std.specs.Prelude.{Bool, true, ◌≡◌, ℕ, Ok, List, [], ◌++◌, if◌then◌else◌}
+use Rattle.grammar.specs.Kinds.{apart, covers, and, not}
+use Rattle.grammar.specs.Grammar.{Tree, Grammar, empty, token, call, line, both, either, fork, many, named, prefer, starting, on, Language}
+use Rattle.grammar.specs.Reading.{Answer, nullable, firsts, refused, read_at, read}
+
+-- The kinds that may go on what is already complete; `tails` tells them of rules.
+unfoldable pub goes_on : {A : Type 0} → (heads tails : ℕ → List ℕ) → Grammar A → List ℕ
+goes_on heads tails empty = []
+goes_on heads tails (token kinds) = []
+goes_on heads tails (call name) = tails name
+goes_on heads tails (line name x) = tails name
+goes_on heads tails (both x y) = goes_on heads tails y ++ (if nullable y then goes_on heads tails x else [])
+goes_on heads tails (either x y) = (goes_on heads tails x ++ goes_on heads tails y) ++ (if nullable y then firsts heads x else [])
+goes_on heads tails (fork stop x y) = stop ++ (goes_on heads tails x ++ goes_on heads tails y)
+goes_on heads tails (many more x) = firsts heads x ++ goes_on heads tails x
+goes_on heads tails (named name x) = goes_on heads tails x
+goes_on heads tails (prefer kinds x) = goes_on heads tails x
+goes_on heads tails (starting test x) = goes_on heads tails x
+goes_on heads tails (on test x y) = goes_on heads tails y ++ goes_on heads tails x
+
+-- The next token always tells what to do, but at a fork.
+unfoldable pub decided : {A : Type 0} → (heads tails : ℕ → List ℕ) → Grammar A → Bool
+decided heads tails empty = true
+decided heads tails (token kinds) = true
+decided heads tails (call name) = true
+decided heads tails (line name x) = true
+decided heads tails (both x y) = and (apart (goes_on heads tails x) (firsts heads y)) (and (decided heads tails x) (decided heads tails y))
+decided heads tails (either x y) =
+    and (not (nullable x)) (and (apart (firsts heads x) (firsts heads y)) (and (decided heads tails x) (decided heads tails y)))
+decided heads tails (fork stop x y) = and (decided heads tails x) (decided heads tails y)
+decided heads tails (many more x) = and (not (nullable x)) (and (apart (goes_on heads tails x) (firsts heads x)) (decided heads tails x))
+decided heads tails (named name x) = decided heads tails x
+decided heads tails (prefer kinds x) = and (not (nullable x)) (and (covers kinds (firsts heads x)) (decided heads tails x))
+decided heads tails (starting test x) = and (not (nullable x)) (decided heads tails x)
+decided heads tails (on test x y) = and (apart (goes_on heads tails x) (firsts heads y)) (and (decided heads tails x) (decided heads tails y))
+
+-- what is tested of each rule
+abbrev pub fits : {A : Type 0} → (heads tails : ℕ → List ℕ) → ℕ → Grammar A → Bool
+fits heads tails name x =
+    and (not (nullable x)) (and (covers (heads name) (firsts heads x)) (and (covers (tails name) (goes_on heads tails x)) (decided heads tails x)))
+
+-- Each right side that stands in its place is that of the rule that it names.
+unfoldable pub InPlace : {A : Type 0} → (ℕ → Grammar A) → Grammar A → Type 0
+InPlace rules empty = Unit {0}
+InPlace rules (token kinds) = Unit {0}
+InPlace rules (call name) = Unit {0}
+InPlace rules (line name x) = x ≡ rules name
+InPlace rules (both x y) = InPlace rules x × InPlace rules y
+InPlace rules (either x y) = InPlace rules x × InPlace rules y
+InPlace rules (fork stop x y) = InPlace rules x × InPlace rules y
+InPlace rules (many more x) = InPlace rules x
+InPlace rules (named name x) = InPlace rules x
+InPlace rules (prefer kinds x) = InPlace rules x
+InPlace rules (starting test x) = InPlace rules x
+InPlace rules (on test x y) = InPlace rules x × InPlace rules y
+
+-- Every rule passes, where `tails` are the kinds that may go on each once it is complete.
+abbrev pub Fits : {A : Type 0} → Language A → (tails : ℕ → List ℕ) → Type 0
+Fits l tails = (n : ℕ) → (fits l.heads tails n (l.rules n) ≡ true) × InPlace l.rules (l.rules n)
+
+-- No front is read by both.
+abbrev pub NotBoth : {A : Type 0} → (List A → Answer A) → (List A → Answer A) → Type 0
+NotBoth {A} a b = (ts : List A) (p q : Tree A × List A) → a ts ≡ Ok p → b ts ≡ Ok q → ⊥
+
+-- At each fork of a right side no front is read both ways.
+unfoldable pub Apart : {A : Type 0} → Language A → ℕ → (ℕ → List A → Answer A) → Grammar A → Type 0
+Apart l limit r empty = Unit {0}
+Apart l limit r (token kinds) = Unit {0}
+Apart l limit r (call name) = Unit {0}
+Apart l limit r (line name x) = Unit {0}
+Apart l limit r (both x y) = Apart l limit r x × Apart l limit r y
+Apart l limit r (either x y) = Apart l limit r x × Apart l limit r y
+Apart l limit r (fork stop x y) = Apart l limit r x × Apart l limit r y × NotBoth (λ ts. refused l stop (read_at l limit r x ts)) (read_at l limit r y)
+Apart l limit r (many more x) = Apart l limit r x
+Apart l limit r (named name x) = Apart l limit r x
+Apart l limit r (prefer kinds x) = Apart l limit r x
+Apart l limit r (starting test x) = Apart l limit r x
+Apart l limit r (on test x y) = Apart l limit r x × Apart l limit r y
+
+-- At each fork of each rule no front is read both ways.
+abbrev pub AllApart : {A : Type 0} → Language A → ℕ → Type 0
+AllApart l limit = (depth n : ℕ) → Apart l limit (read l limit depth) (l.rules n)
