@@ -2,7 +2,7 @@
 use Rattle.std.proofs.Common.{inl, inr, true, false, Bool, ◌≡◌, ℕ, zero, suc, ◌≤◌, ◌<◌, List, [], ◌∷◌, ◌++◌, length, Ok, Err, refl, ap, sym, subst, ◌∙◌, arith}
 use Rattle.std.proofs.lemmas.List.{append-nil}
 use Rattle.grammar.specs.Kinds.{among, apart, covers, not}
-use Rattle.grammar.specs.Grammar.{Tree, tip, leaf, pair, node, Grammar, empty, token, call, line, both, either, fork, many, named, prefer, starting, on, Language, Relation, Perhaps, Chain, starts, Spells, Derives, NoneGoesOn}
+use Rattle.grammar.specs.Grammar.{Tree, tip, leaf, pair, node, Grammar, empty, token, call, line, both, either, fork, many, named, prefer, starting, on, Language, Relation, Perhaps, Chain, starts, Spells, Derives}
 use Rattle.grammar.specs.Reading.{Fault, Answer, ◌>>=◌, nullable, firsts, furthest, perhaps, token_at, refused, many_at, read_at, read}
 use Rattle.grammar.specs.Tests.{goes_on, decided, fits, InPlace, Fits, Apart, AllApart}
 use Rattle.grammar.proofs.Laws.{same_ok, branch, branch_not, second, turn}
@@ -64,6 +64,12 @@ module _ {A : Type 0} (l : Language A) where
       (λ c. chain-complete xs ends limit Q more rd s b k y n e.0 rest c o p (omega (arith, first.1, few)) (omega (arith, first.1, small))) in
       branch _ _ _ first.0 ∙ ap (λ r. r >>= turn l (among xs) more rd n) one ∙ ap (λ r. r >>= (λ y. Ok (pair x y.0, y.1))) others
   chain-complete xs ends limit Q more rd s b k (node name a) (suc n) ts rest e o p few small = absurd e
+
+  -- the same of scripts shorter than a limit
+  abbrev pub NoneWithin : ℕ → ℕ → ℕ → List A → List A → Type 0
+  NoneWithin limit depth start front [] = (tree : Tree A) → Derives l depth start front [] tree → ⊥
+  NoneWithin limit depth start front (t ∷ u) =
+      (more : List A) (tree : Tree A) → length (front ++ t ∷ more) < limit → Derives l depth start (front ++ t ∷ more) [] tree → ⊥
 
 module _ {A : Type 0} (l : Language A) (tails : ℕ → List ℕ) (f : Fits l tails) where
   -- what the tests say of a right side in its place
@@ -256,10 +262,10 @@ module _ {A : Type 0} (l : Language A) (tails : ℕ → List ℕ) (f : Fits l ta
 
   -- A fault is at a token that no script of that depth has there.
   pub fault-is : (limit : ℕ) → AllApart l limit → (depth start : ℕ) (front : List A) (c : Fault A) → length front < limit
-      → read l limit depth start (front ++ c.1) ≡ Err c → NoneGoesOn l limit depth start front c.1
+      → read l limit depth start (front ++ c.1) ≡ Err c → NoneWithin l limit depth start front c.1
   fault-is limit s depth start front c small e = by c.1 e
     where
-      by : (left : List A) → read l limit depth start (front ++ left) ≡ Err (c.0, left) → NoneGoesOn l limit depth start front left
+      by : (left : List A) → read l limit depth start (front ++ left) ≡ Err (c.0, left) → NoneWithin l limit depth start front left
       by [] e = λ tree d.
           let found = read-complete limit s depth start front [] tree d refl small in
           let e' : read l limit depth start front ≡ Err (c.0, []) = ap (read l limit depth start) (sym (append-nil front)) ∙ e in

@@ -2,4 +2,8 @@ pub mod Laws
 pub mod Local
 pub mod Sets
 pub mod Complete
+pub mod Bars
+pub mod Completed
+pub mod Deeper
+pub mod Limits
 pub mod Steps

@@ -1,6 +1,6 @@
 -- Grammars as data, and what they derive (ECMA-262, 5.1.1 to 5.1.4). Nothing here speaks of reading.
 use Rattle.grammar.specs.Kinds.{among}
-use Rattle.std.specs.Prelude.{false, true, Bool, ◌≡◌, ◌⊎◌, ℕ, zero, suc, List, [], ◌∷◌, ◌++◌, length, ◌<◌}
+use Rattle.std.specs.Prelude.{false, true, Bool, ◌≡◌, ◌⊎◌, ℕ, zero, suc, List, [], ◌∷◌, ◌++◌}
 
 -- the tree of what was derived; its leaves are the tokens
 pub data Tree (A : Type 0) : Type 0 where
@@ -87,7 +87,6 @@ module _ {A : Type 0} (l : Language A) where
   Viable start front = (depth : ℕ) × (more : List A) × (tree : Tree A) × Derives depth start (front ++ more) [] tree
 
   -- No script of that depth has, behind these tokens, the first of what is left there (or ends there, where nothing is left).
-  abbrev pub NoneGoesOn : ℕ → ℕ → ℕ → List A → List A → Type 0
-  NoneGoesOn limit depth start front [] = (tree : Tree A) → Derives depth start front [] tree → ⊥
-  NoneGoesOn limit depth start front (t ∷ u) =
-      (more : List A) (tree : Tree A) → length (front ++ t ∷ more) < limit → Derives depth start (front ++ t ∷ more) [] tree → ⊥
+  abbrev pub NoneGoesOn : ℕ → ℕ → List A → List A → Type 0
+  NoneGoesOn depth start front [] = (tree : Tree A) → Derives depth start front [] tree → ⊥
+  NoneGoesOn depth start front (t ∷ u) = (more : List A) (tree : Tree A) → Derives depth start (front ++ t ∷ more) [] tree → ⊥

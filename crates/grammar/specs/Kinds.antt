@@ -20,6 +20,13 @@ unfoldable pub covers : List ℕ → List ℕ → Bool
 covers xs [] = true
 covers xs (y ∷ ys) = if among xs y then covers xs ys else false
 
+-- The two lists are one.
+unfoldable pub alike : List ℕ → List ℕ → Bool
+alike [] [] = true
+alike [] (y ∷ ys) = false
+alike (x ∷ xs) [] = false
+alike (x ∷ xs) (y ∷ ys) = if x == y then alike xs ys else false
+
 abbrev pub and : Bool → Bool → Bool
 and true b = b
 and false b = false

@@ -1,6 +1,6 @@
 -- Tests of a grammar's rules, which compute: the next token always tells what to do, and what stands before a fault can be completed.
-use Rattle.std.specs.Prelude.{Bool, true, ◌≡◌, ℕ, Ok, List, [], ◌++◌, if◌then◌else◌}
-use Rattle.grammar.specs.Kinds.{apart, covers, and, not}
+use Rattle.std.specs.Prelude.{Bool, true, false, ◌≡◌, ◌<◌, ℕ, suc, max, nat_le, Ok, List, [], ◌∷◌, ◌++◌, if◌then◌else◌}
+use Rattle.grammar.specs.Kinds.{alike, apart, covers, and, not}
 use Rattle.grammar.specs.Grammar.{Tree, Grammar, empty, token, call, line, both, either, fork, many, named, prefer, starting, on, Language}
 use Rattle.grammar.specs.Reading.{Answer, nullable, firsts, refused, read_at, read}
 
@@ -81,3 +81,91 @@ Apart l limit r (on test x y) = Apart l limit r x × Apart l limit r y
 -- At each fork of each rule no front is read both ways.
 abbrev pub AllApart : {A : Type 0} → Language A → ℕ → Type 0
 AllApart l limit = (depth n : ℕ) → Apart l limit (read l limit depth) (l.rules n)
+
+-- What is asked of a grammar's rules so that what stands before a fault can be completed: the kinds that may not stand behind each, the kinds of an example
+-- of each, how deep the calls of that example nest (less than `deepest`), how many rules there are, and of which kinds there are tokens.
+pub record Examples : Type 0 where
+  pub shuts : ℕ → List ℕ
+  pub words : ℕ → List ℕ
+  pub ranks : ℕ → ℕ
+  pub deepest : ℕ
+  pub size : ℕ
+  pub usable : ℕ → Bool
+
+-- The kinds that may not stand behind.
+unfoldable pub bars : {A : Type 0} → Examples → Grammar A → List ℕ
+bars e empty = []
+bars e (token kinds) = []
+bars e (call name) = e.shuts name
+bars e (line name x) = e.shuts name
+bars e (both x y) = bars e y ++ (if nullable y then bars e x else [])
+bars e (either x y) = bars e x ++ bars e y
+bars e (fork stop x y) = bars e x ++ bars e y
+bars e (many more x) = bars e x
+bars e (named name x) = bars e x
+bars e (prefer kinds x) = kinds ++ bars e x
+bars e (starting test x) = bars e x
+bars e (on test x y) = bars e y ++ bars e x
+
+abbrev pub first_of : List ℕ → List ℕ
+first_of [] = []
+first_of (kind ∷ kinds) = kind ∷ []
+
+-- the kinds of an example, empty where that may be
+unfoldable pub word : {A : Type 0} → Examples → Grammar A → List ℕ
+word e empty = []
+word e (token kinds) = first_of kinds
+word e (call name) = e.words name
+word e (line name x) = e.words name
+word e (both x y) = word e x ++ word e y
+word e (either x y) = if nullable x then word e x else word e y
+word e (fork stop x y) = if nullable x then word e x else word e y
+word e (many more x) = []
+word e (named name x) = word e x
+word e (prefer kinds x) = []
+word e (starting test x) = word e x
+word e (on test x y) = word e x
+
+-- how deep the calls of the example nest
+unfoldable pub steep : {A : Type 0} → Examples → Grammar A → ℕ
+steep e empty = 0
+steep e (token kinds) = 0
+steep e (call name) = suc (e.ranks name)
+steep e (line name x) = e.ranks name
+steep e (both x y) = max (steep e x) (steep e y)
+steep e (either x y) = if nullable x then steep e x else steep e y
+steep e (fork stop x y) = if nullable x then steep e x else steep e y
+steep e (many more x) = 0
+steep e (named name x) = steep e x
+steep e (prefer kinds x) = 0
+steep e (starting test x) = steep e x
+steep e (on test x y) = steep e x
+
+abbrev pub first_passes : (ℕ → Bool) → List ℕ → Bool
+first_passes test [] = false
+first_passes test (kind ∷ kinds) = test kind
+
+-- What may not stand behind a part never has to.
+unfoldable pub clear : {A : Type 0} → (heads : ℕ → List ℕ) → Examples → Grammar A → Bool
+clear heads e empty = true
+clear heads e (token kinds) = first_passes e.usable kinds
+clear heads e (call name) = nat_le (suc name) e.size
+clear heads e (line name x) = nat_le (suc name) e.size
+clear heads e (both x y) =
+    and (if nullable y then true else apart (bars e x) (firsts heads y)) (and (clear heads e x) (clear heads e y))
+clear heads e (either x y) = and (clear heads e x) (clear heads e y)
+clear heads e (fork stop x y) = and (clear heads e x) (clear heads e y)
+clear heads e (many more x) = and (apart (bars e x) (firsts heads x)) (clear heads e x)
+clear heads e (named name x) = clear heads e x
+clear heads e (prefer kinds x) = clear heads e x
+clear heads e (starting test x) = and (not (nullable x)) (and (first_passes test (word e x)) (clear heads e x))
+clear heads e (on test x y) = and (nullable y) (and (clear heads e x) (clear heads e y))
+
+abbrev pub open_ended : {A : Type 0} → (heads : ℕ → List ℕ) → Examples → ℕ → Grammar A → Bool
+open_ended heads e name x =
+    and (covers (e.shuts name) (bars e x)) (and (alike (e.words name) (word e x))
+    (and (nat_le (steep e x) (e.ranks name)) (and (nat_le (suc (e.ranks name)) e.deepest) (clear heads e x))))
+
+-- Every rule passes, and there is a token of each kind that is used in an example.
+abbrev pub Opens : {A : Type 0} → Language A → Examples → Type 0
+Opens {A} l e = ((n : ℕ) → n < e.size → open_ended l.heads e n (l.rules n) ≡ true) × ((kind : ℕ) → e.usable kind ≡ true → (t : A) × (l.kind t ≡ kind))

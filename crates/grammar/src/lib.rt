@@ -5,7 +5,7 @@
 //! below), `Steps` (what code answers). `proofs/Steps.antt` has a lemma for each step of code that reads by a grammar.
 #![tactic(auto)]
 
-ghost use Rattle.grammar.specs.Promises.{IsSound, IsComplete, HasOneTree, IsLocal};
+ghost use Rattle.grammar.specs.Promises.{IsSound, IsComplete, HasOneTree, IsLocal, IsExact};
 
 /// What is read is derived, by every grammar with tokens of any type.
 pub fn what_is_read_is_derived<Token>()
@@ -25,4 +25,10 @@ pub fn one_tree<Token>()
 /// A fault stays where it is, and of nesting or not, whatever stands behind its token.
 pub fn faults_are_local<Token>()
     ensures { IsLocal Token }
+{}
+
+/// The place of a fault is exact: some script begins with what stands before it, no script that nests within the
+/// limit has the fault's token there, and no script at all where the fault is not one of nesting.
+pub fn exact_place<Token>()
+    ensures { IsExact Token }
 {}
