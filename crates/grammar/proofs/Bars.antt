@@ -2,7 +2,7 @@
 use Rattle.std.proofs.Common.{inl, inr, true, false, Bool, ◌⊎◌, ◌≡◌, ℕ, zero, suc, ◌≤◌, ◌<◌, List, [], ◌∷◌, ◌++◌, length, Ok, Err, refl, ap, sym, subst, ◌∙◌, arith}
 use Rattle.std.proofs.lemmas.List.{append_assoc}
 use Rattle.std.proofs.lemmas.Bool.Decides.{leb_tells}
-use Rattle.std.specs.Prelude.{if◌then◌else◌, ◌==◌, nat_le}
+use Rattle.std.specs.Prelude.{if◌then◌else◌, ◌||◌, ◌==◌, nat_le}
 use Rattle.grammar.specs.Kinds.{among, apart, covers, alike}
 use Rattle.grammar.specs.Grammar.{Tree, tip, leaf, pair, node, Grammar, empty, token, call, line, both, either, fork, many, named, prefer, starting, on, Language, Relation, Perhaps, Chain, starts}
 use Rattle.grammar.specs.Reading.{Fault, Answer, ◌>>=◌, nullable, perhaps, many_at}
@@ -185,6 +185,10 @@ module _ {A : Type 0} (l : Language A) where
         | inr h ↦ absurd (cc (h.1))
       ]
 
+pub or_left : (a b : Bool) → (a || b) ≡ true → b ≡ false → a ≡ true
+or_left true b e f = refl
+or_left false b e f = absurd (cc (e, f))
+
 -- an example of a part that may be empty
 pub word-empty : {A : Type 0} (e : Examples) (x : Grammar A) → nullable x ≡ true → word e x ≡ []
 unfolding nullable word
@@ -200,9 +204,9 @@ word-empty e (either x y) n = elim (is_or_not (nullable x)) [
   | inl h ↦ rw h (word-empty e x h)
   | inr h ↦ let n' : nullable y ≡ true = rw h at n in rw h (word-empty e y n')
 ]
-word-empty e (fork stop x y) n = elim (is_or_not (nullable x)) [
-  | inl h ↦ rw h (word-empty e x h)
-  | inr h ↦ let n' : nullable y ≡ true = rw h at n in rw h (word-empty e y n')
+word-empty e (fork stop x y) n = elim (is_or_not (nullable y)) [
+  | inl h ↦ rw h (word-empty e y h)
+  | inr h ↦ rw h (word-empty e x (or_left (nullable x) (nullable y) n h))
 ]
 word-empty e (many more x) n = refl
 word-empty e (named name x) n = word-empty e x n

@@ -11,7 +11,7 @@ use Rattle.grammar.specs.Tests.{InPlace, Fits, Examples, bars, word, steep, firs
 use Rattle.grammar.proofs.Laws.{bind_err, same_err, chosen, token-err, fork_err, further-is, refused_err, perhaps_err, rows, plus, second, Sound, read_at-sound, derives-more}
 use Rattle.grammar.proofs.Sets.{and_both, not_true, test_was, is_or_not, Off, off-left, off-right, off-covered, begun-surely, begun-off, last_off}
 use Rattle.grammar.proofs.Complete.{Begins, perhaps-begun, in-place, spells-begun, derives-begun}
-use Rattle.grammar.proofs.Bars.{alike-same, at_most, at_start, perhaps-some, follows-left, follows-right, follows-covered, Moves, perhaps-moved, follows-mid, chain-moved, start-moved, kinds_of, kinds_of-append, kinds_of-nil, first-starts, Example, off-mid, Completed, completed-as, behind-completed, Completes, many-completed, word-empty}
+use Rattle.grammar.proofs.Bars.{or_left, alike-same, at_most, at_start, perhaps-some, follows-left, follows-right, follows-covered, Moves, perhaps-moved, follows-mid, chain-moved, start-moved, kinds_of, kinds_of-append, kinds_of-nil, first-starts, Example, off-mid, Completed, completed-as, behind-completed, Completes, many-completed, word-empty}
 
 pub is_less : (a b : ℕ) → a < b → nat_le (suc a) b ≡ true
 is_less a b h = elim (leb_tells (suc a) b) [ inl k ↦ k.0 | inr k ↦ absurd (omega (arith, h, k.1)) ]
@@ -30,9 +30,9 @@ steep-empty e (either x y) n = elim (is_or_not (nullable x)) [
   | inl h ↦ rw h (steep-empty e x h)
   | inr h ↦ let n' : nullable y ≡ true = rw h at n in rw h (steep-empty e y n')
 ]
-steep-empty e (fork stop x y) n = elim (is_or_not (nullable x)) [
-  | inl h ↦ rw h (steep-empty e x h)
-  | inr h ↦ let n' : nullable y ≡ true = rw h at n in rw h (steep-empty e y n')
+steep-empty e (fork stop x y) n = elim (is_or_not (nullable y)) [
+  | inl h ↦ rw h (steep-empty e y h)
+  | inr h ↦ rw h (steep-empty e x (or_left (nullable x) (nullable y) n h))
 ]
 steep-empty e (many more x) n = refl
 steep-empty e (named name x) n = steep-empty e x n
@@ -170,12 +170,12 @@ module _ {A : Type 0} (l : Language A) (tails : ℕ → List ℕ) (f : Fits l ta
       ]
   spells-example R bound b m (fork stop x y) p v s =
       let v₂ = and_both (clear l.heads e x) (clear l.heads e y) v in
-      elim (is_or_not (nullable x)) [
-        | inl h ↦
+      elim (is_or_not (nullable y)) [
+        | inr h ↦
             let s' : steep e x ≤ bound = rw h at s in
             let g = spells-example R bound b m x p.0 v₂.0 s' in
             (g.0, rw h (g.1), λ next q. ((g.2 next (off-left l (bars e x) (bars e y) next q)).0, inl (g.2 next (off-left l (bars e x) (bars e y) next q)).1))
-        | inr h ↦
+        | inl h ↦
             let s' : steep e y ≤ bound = rw h at s in
             let g = spells-example R bound b m y p.1 v₂.1 s' in
             (g.0, rw h (g.1), λ next q. ((g.2 next (off-right l (bars e x) (bars e y) next q)).0, inr (g.2 next (off-right l (bars e x) (bars e y) next q)).1))

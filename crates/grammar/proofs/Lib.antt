@@ -6,4 +6,7 @@ pub mod Bars
 pub mod Completed
 pub mod Deeper
 pub mod Limits
+pub mod Pairs
+pub mod Lists
 pub mod Steps
+pub mod Sample

@@ -39,6 +39,12 @@ pub record Language (A : Type 0) : Type 0 where
   pub rules : ℕ → Grammar A
   pub heads : ℕ → List ℕ
 
+-- the member of a list by its number, else the default
+unfoldable pub entry : {B : Type 0} → B → List B → ℕ → B
+entry none [] n = none
+entry none (x ∷ xs) zero = x
+entry none (x ∷ xs) (suc n) = entry none xs n
+
 -- what derives from which tokens up to which rest
 abbrev pub Relation : Type 0 → Type 1
 Relation A = List A → List A → Tree A → Type 0

@@ -3,6 +3,7 @@ use Rattle.std.specs.Prelude.{◌≡◌, ◌<◌, Bool, false, ℕ, List, [], �
 use Rattle.grammar.specs.Grammar.{Tree, Language, Derives, Viable, NoneGoesOn}
 use Rattle.grammar.specs.Reading.{read}
 use Rattle.grammar.specs.Tests.{Fits, AllApart, Examples, Opens}
+use Rattle.grammar.specs.Pairs.{Forks, Told}
 
 -- What is read is derived.
 abbrev pub IsSound : Type 0 → Type 0
@@ -31,3 +32,7 @@ IsExact A = (l : Language A) (tails : ℕ → List ℕ) (e : Examples) (limit de
     → Fits l tails → Opens l e → ((limit : ℕ) → AllApart l limit) → start < e.size → length tokens < limit → read l limit depth start tokens ≡ Err (deep, left)
     → (front : List A) × (tokens ≡ front ++ left) × Viable l start front × NoneGoesOn l depth start front left
     × (deep ≡ false → (any : ℕ) → NoneGoesOn l any start front left)
+
+-- In a grammar whose rules pass the tests the two readings of each fork exclude each other.
+abbrev pub HasForksApart : Type 0 → Type 0
+HasForksApart A = (l : Language A) (tails : ℕ → List ℕ) (b : Forks) (limit : ℕ) → Fits l tails → Told l b → AllApart l limit

@@ -63,6 +63,11 @@ Fits l tails = (n : ℕ) → (fits l.heads tails n (l.rules n) ≡ true) × InPl
 abbrev pub NotBoth : {A : Type 0} → (List A → Answer A) → (List A → Answer A) → Type 0
 NotBoth {A} a b = (ts : List A) (p q : Tree A × List A) → a ts ≡ Ok p → b ts ≡ Ok q → ⊥
 
+-- the same of rules in a list, from a number on
+unfoldable pub AllFit : {A : Type 0} → Language A → (tails : ℕ → List ℕ) → ℕ → List (Grammar A) → Type 0
+AllFit l tails n [] = Unit {0}
+AllFit l tails n (x ∷ xs) = ((fits l.heads tails n x ≡ true) × InPlace l.rules x) × AllFit l tails (suc n) xs
+
 -- At each fork of a right side no front is read both ways.
 unfoldable pub Apart : {A : Type 0} → Language A → ℕ → (ℕ → List A → Answer A) → Grammar A → Type 0
 Apart l limit r empty = Unit {0}
@@ -119,7 +124,7 @@ word e (call name) = e.words name
 word e (line name x) = e.words name
 word e (both x y) = word e x ++ word e y
 word e (either x y) = if nullable x then word e x else word e y
-word e (fork stop x y) = if nullable x then word e x else word e y
+word e (fork stop x y) = if nullable y then word e y else word e x
 word e (many more x) = []
 word e (named name x) = word e x
 word e (prefer kinds x) = []
@@ -134,7 +139,7 @@ steep e (call name) = suc (e.ranks name)
 steep e (line name x) = e.ranks name
 steep e (both x y) = max (steep e x) (steep e y)
 steep e (either x y) = if nullable x then steep e x else steep e y
-steep e (fork stop x y) = if nullable x then steep e x else steep e y
+steep e (fork stop x y) = if nullable y then steep e y else steep e x
 steep e (many more x) = 0
 steep e (named name x) = steep e x
 steep e (prefer kinds x) = 0
@@ -169,3 +174,8 @@ open_ended heads e name x =
 -- Every rule passes, and there is a token of each kind that is used in an example.
 abbrev pub Opens : {A : Type 0} → Language A → Examples → Type 0
 Opens {A} l e = ((n : ℕ) → n < e.size → open_ended l.heads e n (l.rules n) ≡ true) × ((kind : ℕ) → e.usable kind ≡ true → (t : A) × (l.kind t ≡ kind))
+
+-- the same of rules in a list, from a number on
+unfoldable pub AllOpen : {A : Type 0} → Language A → Examples → ℕ → List (Grammar A) → Type 0
+AllOpen l e n [] = Unit {0}
+AllOpen l e n (x ∷ xs) = (open_ended l.heads e n x ≡ true) × AllOpen l e (suc n) xs

@@ -5,7 +5,7 @@
 //! below), `Steps` (what code answers). `proofs/Steps.antt` has a lemma for each step of code that reads by a grammar.
 #![tactic(auto)]
 
-ghost use Rattle.grammar.specs.Promises.{IsSound, IsComplete, HasOneTree, IsLocal, IsExact};
+ghost use Rattle.grammar.specs.Promises.{IsSound, IsComplete, HasOneTree, IsLocal, IsExact, HasForksApart};
 
 /// What is read is derived, by every grammar with tokens of any type.
 pub fn what_is_read_is_derived<Token>()
@@ -31,4 +31,9 @@ pub fn faults_are_local<Token>()
 /// limit has the fault's token there, and no script at all where the fault is not one of nesting.
 pub fn exact_place<Token>()
     ensures { IsExact Token }
+{}
+
+/// The two readings of each fork exclude each other, where the rules pass tests of their brackets, which compute.
+pub fn forks_exclude<Token>()
+    ensures { HasForksApart Token }
 {}
