@@ -4,7 +4,7 @@ use Rattle.std.proofs.lemmas.List.{append_assoc}
 use Rattle.std.proofs.lemmas.Bool.Decides.{leb_tells}
 use Rattle.std.specs.Prelude.{if◌then◌else◌, ◌||◌, ◌==◌, nat_le}
 use Rattle.grammar.specs.Kinds.{among, apart, covers, alike}
-use Rattle.grammar.specs.Grammar.{Tree, tip, leaf, pair, node, Grammar, empty, token, call, line, both, either, fork, many, named, prefer, starting, on, Language, Relation, Perhaps, Chain, starts}
+use Rattle.grammar.specs.Grammar.{Tree, tip, leaf, pair, node, Grammar, empty, token, call, line, both, either, fork, many, named, prefer, starting, on, Language, Relation, Perhaps, Choice, Chain, starts}
 use Rattle.grammar.specs.Reading.{Fault, Answer, ◌>>=◌, nullable, perhaps, many_at}
 use Rattle.grammar.specs.Tests.{Examples, word, first_passes}
 use Rattle.grammar.proofs.Laws.{bind_err, same_err, chosen, perhaps_err, rows, turn, Sound, same_number}
@@ -33,10 +33,10 @@ pub perhaps-nothing : {A : Type 0} (b : Bool) (Q : Relation A) (ts : List A) →
 perhaps-nothing true Q ts q = inl (refl, q)
 perhaps-nothing false Q ts q = inr (refl, refl, refl)
 
--- it, where it may be, of any tree
-pub perhaps-some : {A : Type 0} (b : Bool) (Q : Relation A) (ts : List A) (a : Tree A) → Q ts ts a → (c : Tree A) × Perhaps b Q ts ts c
-perhaps-some true Q ts a q = (a, inl (refl, q))
-perhaps-some false Q ts a q = (tip, inr (refl, refl, refl))
+-- the one or the other, where both may be there
+pub choice-some : {A : Type 0} (b : Bool) (Q S : Relation A) (ts : List A) (a a' : Tree A) → Q ts ts a → S ts ts a' → (c : Tree A) × Choice b Q S ts ts c
+choice-some true Q S ts a a' q q' = (a, inl (refl, q))
+choice-some false Q S ts a a' q q' = (a', inr (refl, q'))
 
 module _ {A : Type 0} (l : Language A) where
   -- the same first token, or one that is allowed
@@ -66,6 +66,13 @@ module _ {A : Type 0} (l : Language A) where
   perhaps-moved xs b Q ts rest a e m = elim e [
     | inl h ↦ let k = m h.1 in (k.0, k.1, λ next w. inl (h.0, k.2 next w))
     | inr h ↦ ([], h.1, λ next w. inr (h.0, refl, h.2))
+  ]
+
+  pub choice-moved : (xs ys : List ℕ) (b : Bool) (Q S : Relation A) (ts rest : List A) (a : Tree A) → Choice b Q S ts rest a → (Q ts rest a → Moved xs Q ts rest a)
+      → (S ts rest a → Moved ys S ts rest a) → Moved (xs ++ ys) (Choice b Q S) ts rest a
+  choice-moved xs ys b Q S ts rest a e m n = elim e [
+    | inl h ↦ let k = m h.1 in (k.0, k.1, λ next w. inl (h.0, k.2 next (follows-left xs ys rest next w)))
+    | inr h ↦ let k = n h.1 in (k.0, k.1, λ next w. inr (h.0, k.2 next (follows-right xs ys rest next w)))
   ]
 
   -- between two parts
@@ -212,4 +219,4 @@ word-empty e (many more x) n = refl
 word-empty e (named name x) n = word-empty e x n
 word-empty e (prefer kinds x) n = refl
 word-empty e (starting test x) n = word-empty e x n
-word-empty e (on test x y) n = word-empty e x n
+word-empty e (on test x y z) n = word-empty e x n

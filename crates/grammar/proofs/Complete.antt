@@ -2,8 +2,8 @@
 use Rattle.std.proofs.Common.{inl, inr, true, false, Bool, ◌≡◌, ℕ, zero, suc, ◌≤◌, ◌<◌, List, [], ◌∷◌, ◌++◌, length, Ok, Err, refl, ap, sym, subst, ◌∙◌, arith}
 use Rattle.std.proofs.lemmas.List.{append-nil}
 use Rattle.grammar.specs.Kinds.{among, apart, covers, not}
-use Rattle.grammar.specs.Grammar.{Tree, tip, leaf, pair, node, Grammar, empty, token, call, line, both, either, fork, many, named, prefer, starting, on, Language, Relation, Perhaps, Chain, starts, Spells, Derives}
-use Rattle.grammar.specs.Reading.{Fault, Answer, ◌>>=◌, nullable, firsts, furthest, perhaps, token_at, refused, many_at, read_at, read}
+use Rattle.grammar.specs.Grammar.{Tree, tip, leaf, pair, node, Grammar, empty, token, call, line, both, either, fork, many, named, prefer, starting, on, Language, Relation, Perhaps, Choice, Chain, starts, Spells, Derives}
+use Rattle.grammar.specs.Reading.{Fault, Answer, ◌>>=◌, nullable, firsts, furthest, perhaps, choose, token_at, refused, many_at, read_at, read}
 use Rattle.grammar.specs.Tests.{goes_on, decided, fits, InPlace, Fits, Apart, AllApart}
 use Rattle.grammar.proofs.Laws.{same_ok, branch, branch_not, second, turn}
 use Rattle.grammar.proofs.Local.{furthest-second, read-tame}
@@ -17,6 +17,11 @@ perhaps-complete b Q rd ts rest a e k = elim e [
   | inr h ↦ branch_not _ _ _ h.0 ∙ ap (λ m. Ok (tip, m)) h.1 ∙ ap (λ a. Ok (a, rest)) (sym h.2)
 ]
 
+-- it or the other
+pub choice-complete : {A : Type 0} (b : Bool) (Q S : Relation A) (rd rd' : List A → Answer A) (ts rest : List A) (a : Tree A) → Choice b Q S ts rest a
+    → (Q ts rest a → rd ts ≡ Ok (a, rest)) → (S ts rest a → rd' ts ≡ Ok (a, rest)) → choose b rd rd' ts ≡ Ok (a, rest)
+choice-complete b Q S rd rd' ts rest a e k m = elim e [ inl h ↦ branch _ _ _ h.0 ∙ k h.1 | inr h ↦ branch_not _ _ _ h.0 ∙ m h.1 ]
+
 module _ {A : Type 0} (l : Language A) where
   abbrev pub Begins : List ℕ → Bool → Relation A → Type 0
   Begins xs none Q = (ts rest : List A) (a : Tree A) → Q ts rest a → Begun l xs none ts rest
@@ -26,6 +31,13 @@ module _ {A : Type 0} (l : Language A) where
   perhaps-begun xs none b Q ts rest a e k = elim e [
     | inl h ↦ elim (k h.1) [ inl j ↦ inl j | inr j ↦ inr (refl, j.1) ]
     | inr h ↦ inr (refl, h.1)
+  ]
+
+  pub choice-begun : (xs ys : List ℕ) (none none' b : Bool) (Q S : Relation A) (ts rest : List A) (a : Tree A) → Choice b Q S ts rest a → (Q ts rest a → Begun l xs none ts rest)
+      → (S ts rest a → Begun l ys none' ts rest) → Begun l (xs ++ ys) true ts rest
+  choice-begun xs ys none none' b Q S ts rest a e k m = elim e [
+    | inl h ↦ elim (k h.1) [ inl j ↦ inl (at-left l xs ys ts j.0, j.1) | inr j ↦ inr (refl, j.1) ]
+    | inr h ↦ elim (m h.1) [ inl j ↦ inl (at-right l xs ys ts j.0, j.1) | inr j ↦ inr (refl, j.1) ]
   ]
 
   pub chain-begun : (xs : List ℕ) (none : Bool) (Q : Relation A) (more : Tree A → Bool) → Begins xs none Q → (a : Tree A) (ts rest : List A) → Chain Q more a ts rest
@@ -128,9 +140,10 @@ module _ {A : Type 0} (l : Language A) (tails : ℕ → List ℕ) (f : Fits l ta
     | inl k ↦ inl (at-kept l test (firsts l.heads x) ts k.0 e.0, k.1)
     | inr k ↦ inr k
   ]
-  spells-begun R b (on test x y) p ts rest a e =
-      let k = perhaps-begun l (firsts l.heads y) (nullable y) (test e.1) (Spells l R y) e.0 rest e.2 e.4 (λ c. spells-begun R b y p.1 e.0 rest e.2 c) in
-      let s = begun-shorter l (firsts l.heads y) true e.0 rest k in
+  spells-begun R b (on test x y z) p ts rest a e =
+      let k = choice-begun l (firsts l.heads y) (firsts l.heads z) (nullable y) (nullable z) (test e.1) (Spells l R y) (Spells l R z) e.0 rest e.2 e.4
+      (λ c. spells-begun R b y p.1 e.0 rest e.2 c) (λ c. spells-begun R b z p.2 e.0 rest e.2 c) in
+      let s = begun-shorter l (firsts l.heads y ++ firsts l.heads z) true e.0 rest k in
       elim (spells-begun R b x p.0 ts e.0 e.1 e.3) [
         | inl h ↦ inl (at-left l (firsts l.heads x) _ ts h.0, omega (arith, h.1, s))
         | inr h ↦ elim k [
@@ -223,17 +236,23 @@ module _ {A : Type 0} (l : Language A) (tails : ℕ → List ℕ) (f : Fits l ta
   read_at-complete R limit r b k q (starting test x) p d s ts rest a e off small =
       let d₁ = and_both (not (nullable x)) _ d in
       branch _ _ _ e.0 ∙ read_at-complete R limit r b k q x p d₁.1 s ts rest a e.1 off small
-  read_at-complete R limit r b k q (on test x y) p d s ts rest a e off small =
-      let d₁ = and_both (apart (goes_on l.heads tails x) (firsts l.heads y)) _ d in
-      let d₂ = and_both (decided l.heads tails x) (decided l.heads tails y) d₁.1 in
-      let begun = perhaps-begun l (firsts l.heads y) (nullable y) (test e.1) (Spells l R y) e.0 rest e.2 e.4 (λ c. spells-begun R b y p.1 e.0 rest e.2 c) in
-      let off_x = begun-off l (goes_on l.heads tails x) (firsts l.heads y) true e.0 rest d₁.0 begun (λ _. off-right l (goes_on l.heads tails y) (goes_on l.heads tails x) rest off) in
+  read_at-complete R limit r b k q (on test x y z) p d s ts rest a e off small =
+      let d₁ = and_both (apart (goes_on l.heads tails x) (firsts l.heads y ++ firsts l.heads z)) _ d in
+      let d₂ = and_both (decided l.heads tails x) _ d₁.1 in
+      let d₃ = and_both (decided l.heads tails y) (decided l.heads tails z) d₂.1 in
+      let offs = off-left l (goes_on l.heads tails y ++ goes_on l.heads tails z) _ rest off in
+      let begun = choice-begun l (firsts l.heads y) (firsts l.heads z) (nullable y) (nullable z) (test e.1) (Spells l R y) (Spells l R z) e.0 rest e.2 e.4
+      (λ c. spells-begun R b y p.1 e.0 rest e.2 c) (λ c. spells-begun R b z p.2 e.0 rest e.2 c) in
+      let off_x = begun-off l (goes_on l.heads tails x) (firsts l.heads y ++ firsts l.heads z) true e.0 rest d₁.0 begun
+      (λ _. off-right l (goes_on l.heads tails y ++ goes_on l.heads tails z) (goes_on l.heads tails x) rest off) in
       let shorter = derived-shorter R b x p.0 ts e.0 e.1 e.3 in
       let one : read_at l limit r x ts ≡ Ok (e.1, e.0) = read_at-complete R limit r b k q x p.0 d₂.0 s.0 ts e.0 e.1 e.3 off_x small in
-      let two : perhaps (test e.1) (read_at l limit r y) e.0 ≡ Ok (e.2, rest) =
-      perhaps-complete (test e.1) (Spells l R y) (read_at l limit r y) e.0 rest e.2 e.4
-      (λ c. read_at-complete R limit r b k q y p.1 d₂.1 s.1 e.0 rest e.2 c (off-left l (goes_on l.heads tails y) _ rest off) (omega (arith, shorter, small))) in
-      ap (λ v. v >>= second l (λ a. perhaps (test a) (read_at l limit r y))) one ∙ ap (λ v. v >>= λ q. Ok (pair e.1 q.0, q.1)) two ∙ ap (λ a. Ok (a, rest)) (sym e.5)
+      let two : choose (test e.1) (read_at l limit r y) (read_at l limit r z) e.0 ≡ Ok (e.2, rest) =
+      choice-complete (test e.1) (Spells l R y) (Spells l R z) (read_at l limit r y) (read_at l limit r z) e.0 rest e.2 e.4
+      (λ c. read_at-complete R limit r b k q y p.1 d₃.0 s.1 e.0 rest e.2 c (off-left l (goes_on l.heads tails y) (goes_on l.heads tails z) rest offs) (omega (arith, shorter, small)))
+      (λ c. read_at-complete R limit r b k q z p.2 d₃.1 s.2 e.0 rest e.2 c (off-right l (goes_on l.heads tails y) (goes_on l.heads tails z) rest offs) (omega (arith, shorter, small))) in
+      ap (λ v. v >>= second l (λ a. choose (test a) (read_at l limit r y) (read_at l limit r z))) one ∙ ap (λ v. v >>= λ q. Ok (pair e.1 q.0, q.1)) two
+      ∙ ap (λ a. Ok (a, rest)) (sym e.5)
 
   pub derives-begun : (depth n : ℕ) → Begins l (l.heads n) false (Derives l depth n)
   unfolding Derives

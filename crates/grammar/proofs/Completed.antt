@@ -1,17 +1,17 @@
 -- What stands before a fault is completed, and so the place of a fault is exact.
-use Rattle.std.proofs.Common.{inl, inr, true, false, ◌≡◌, ℕ, zero, suc, ◌≤◌, ◌<◌, List, [], ◌∷◌, ◌++◌, Ok, Err, refl, ap, sym, subst, ◌∙◌, arith}
+use Rattle.std.proofs.Common.{Bool, inl, inr, true, false, ◌≡◌, ℕ, zero, suc, ◌≤◌, ◌<◌, List, [], ◌∷◌, ◌++◌, Ok, Err, refl, ap, sym, subst, ◌∙◌, arith}
 use Rattle.std.proofs.lemmas.List.{append_assoc}
 use Rattle.std.proofs.lemmas.Bool.{eq-eqb}
 use Rattle.std.proofs.lemmas.Bool.Decides.{leb_tells}
 use Rattle.std.specs.Prelude.{if◌then◌else◌, max, nat_le}
-use Rattle.grammar.specs.Kinds.{among, apart, covers, alike, not}
-use Rattle.grammar.specs.Grammar.{Tree, tip, leaf, pair, node, Grammar, empty, token, call, line, both, either, fork, many, named, prefer, starting, on, Language, Relation, Chain, starts, Spells, Derives, Viable}
-use Rattle.grammar.specs.Reading.{Fault, Answer, nullable, firsts, perhaps, refused, read_at, read}
+use Rattle.grammar.specs.Kinds.{among, apart, covers, alike, and, not}
+use Rattle.grammar.specs.Grammar.{Tree, tip, leaf, pair, node, Grammar, empty, token, call, line, both, either, fork, many, named, prefer, starting, on, Language, Relation, Choice, Chain, starts, Spells, Derives, Viable}
+use Rattle.grammar.specs.Reading.{Fault, Answer, nullable, firsts, choose, refused, read_at, read}
 use Rattle.grammar.specs.Tests.{InPlace, Fits, Examples, bars, word, steep, first_of, first_passes, clear, open_ended, Opens}
 use Rattle.grammar.proofs.Laws.{bind_err, same_err, chosen, token-err, fork_err, further-is, refused_err, perhaps_err, rows, plus, second, Sound, read_at-sound, derives-more}
 use Rattle.grammar.proofs.Sets.{and_both, not_true, test_was, is_or_not, Off, off-left, off-right, off-covered, begun-surely, begun-off, last_off}
-use Rattle.grammar.proofs.Complete.{Begins, perhaps-begun, in-place, spells-begun, derives-begun}
-use Rattle.grammar.proofs.Bars.{or_left, alike-same, at_most, at_start, perhaps-some, follows-left, follows-right, follows-covered, Moves, perhaps-moved, follows-mid, chain-moved, start-moved, kinds_of, kinds_of-append, kinds_of-nil, first-starts, Example, off-mid, Completed, completed-as, behind-completed, Completes, many-completed, word-empty}
+use Rattle.grammar.proofs.Complete.{Begins, choice-begun, in-place, spells-begun, derives-begun}
+use Rattle.grammar.proofs.Bars.{or_left, Moved, alike-same, at_most, at_start, choice-some, follows-left, follows-right, follows-covered, Moves, choice-moved, follows-mid, chain-moved, start-moved, kinds_of, kinds_of-append, kinds_of-nil, first-starts, Example, off-mid, Completed, completed-as, behind-completed, Completes, many-completed, word-empty}
 
 pub is_less : (a b : ℕ) → a < b → nat_le (suc a) b ≡ true
 is_less a b h = elim (leb_tells (suc a) b) [ inl k ↦ k.0 | inr k ↦ absurd (omega (arith, h, k.1)) ]
@@ -38,7 +38,7 @@ steep-empty e (many more x) n = refl
 steep-empty e (named name x) n = steep-empty e x n
 steep-empty e (prefer kinds x) n = refl
 steep-empty e (starting test x) n = steep-empty e x n
-steep-empty e (on test x y) n = steep-empty e x n
+steep-empty e (on test x y z) n = steep-empty e x n
 
 module _ {A : Type 0} (l : Language A) (tails : ℕ → List ℕ) (f : Fits l tails) (e : Examples) (o : Opens l e) where
   -- what the tests say of a right side in its place
@@ -106,20 +106,24 @@ module _ {A : Type 0} (l : Language A) (tails : ℕ → List ℕ) (f : Fits l ta
       let g = spells-moved R b m x p v₂.1 ts rest a d.1 in
       let begun = begun-surely l (firsts l.heads x) (nullable x) ts rest (not_true (nullable x) v₁.0) (spells-begun l tails f R b x p ts rest a d.1) in
       (g.0, g.1, λ next w. (start-moved l test g.0 ts rest next g.1 begun.1 d.0, g.2 next w))
-  spells-moved R b m (on test x y) p v ts rest a d =
-      let v₁ = and_both (nullable y) _ v in
-      let v₂ = and_both (clear l.heads e x) (clear l.heads e y) v₁.1 in
+  spells-moved R b m (on test x y z) p v ts rest a d =
+      let v₁ = and_both (and (nullable y) (nullable z)) _ v in
+      let v₂ = and_both (clear l.heads e x) _ v₁.1 in
+      let v₃ = and_both (clear l.heads e y) (clear l.heads e z) v₂.1 in
       let g = spells-moved R b m x p.0 v₂.0 ts d.0 d.1 d.3 in
-      let k = perhaps-moved l (bars e y) (test d.1) (Spells l R y) d.0 rest d.2 d.4 (λ c. spells-moved R b m y p.1 v₂.1 d.0 rest d.2 c) in
-      let begun = perhaps-begun l (firsts l.heads y) (nullable y) (test d.1) (Spells l R y) d.0 rest d.2 d.4 (λ c. spells-begun l tails f R b y p.1 d.0 rest d.2 c) in (
+      let k = choice-moved l (bars e y) (bars e z) (test d.1) (Spells l R y) (Spells l R z) d.0 rest d.2 d.4 (λ c. spells-moved R b m y p.1 v₃.0 d.0 rest d.2 c)
+      (λ c. spells-moved R b m z p.2 v₃.1 d.0 rest d.2 c) in
+      let begun = choice-begun l (firsts l.heads y) (firsts l.heads z) (nullable y) (nullable z) (test d.1) (Spells l R y) (Spells l R z) d.0 rest d.2 d.4
+      (λ c. spells-begun l tails f R b y p.1 d.0 rest d.2 c) (λ c. spells-begun l tails f R b z p.2 d.0 rest d.2 c) in (
         g.0 ++ k.0,
         rows g.0 k.0 ts d.0 rest g.1 k.1,
         λ next w. (
           k.0 ++ next,
           d.1,
           d.2,
-          rw (append_assoc g.0 k.0 next) (g.2 (k.0 ++ next) (follows-mid l (bars e x) (bars e y) (firsts l.heads y) true k.0 d.0 rest next k.1 begun w)),
-          k.2 next (follows-left l (bars e y) (bars e x) rest next w),
+          rw (append_assoc g.0 k.0 next)
+              (g.2 (k.0 ++ next) (follows-mid l (bars e x) (bars e y ++ bars e z) (firsts l.heads y ++ firsts l.heads z) true k.0 d.0 rest next k.1 begun w)),
+          k.2 next (follows-left l (bars e y ++ bars e z) (bars e x) rest next w),
           d.5,
         ),
       )
@@ -189,20 +193,28 @@ module _ {A : Type 0} (l : Language A) (tails : ℕ → List ℕ) (f : Fits l ta
       let v₂ = and_both (first_passes test (word e x)) _ v₁.1 in
       let g = spells-example R bound b m x p v₂.1 s in
       (g.0, g.1, λ next q. ((g.2 next q).0, (first-starts l test g.0 next (word e x) g.1 v₂.0, (g.2 next q).1)))
-  spells-example R bound b m (on test x y) p v s =
-      let v₁ = and_both (nullable y) _ v in
-      let v₂ = and_both (clear l.heads e x) (clear l.heads e y) v₁.1 in
-      let flat = steep-empty e y v₁.0 in
+  spells-example R bound b m (on test x y z) p v s =
+      let v₁ = and_both (and (nullable y) (nullable z)) _ v in
+      let n = and_both (nullable y) (nullable z) v₁.0 in
+      let v₂ = and_both (clear l.heads e x) _ v₁.1 in
+      let v₃ = and_both (clear l.heads e y) (clear l.heads e z) v₂.1 in
+      let flat = steep-empty e y n.0 in
+      let low = steep-empty e z n.1 in
       let g = spells-example R bound b m x p.0 v₂.0 s in
-      let k = spells-example R bound b m y p.1 v₂.1 (omega (arith, flat)) in
-      let none : k.0 ≡ [] = kinds_of-nil l k.0 (k.1 ∙ word-empty e y v₁.0) in (
+      let k = spells-example R bound b m y p.1 v₃.0 (omega (arith, flat)) in
+      let i = spells-example R bound b m z p.2 v₃.1 (omega (arith, low)) in
+      let none : k.0 ≡ [] = kinds_of-nil l k.0 (k.1 ∙ word-empty e y n.0) in
+      let neither : i.0 ≡ [] = kinds_of-nil l i.0 (i.1 ∙ word-empty e z n.1) in (
         g.0,
         g.1,
         λ next q.
-            let c = k.2 next (off-left l (bars e y) (bars e x) next q) in
-            let d = g.2 next (off-right l (bars e y) (bars e x) next q) in
-            let z = perhaps-some (test d.0) (Spells l R y) next c.0 (subst (λ n. Spells l R y (n ++ next) next c.0) none c.1) in
-            (pair d.0 z.0, (next, d.0, z.0, d.1, z.1, refl)),
+            let qs = off-left l (bars e y ++ bars e z) (bars e x) next q in
+            let c = k.2 next (off-left l (bars e y) (bars e z) next qs) in
+            let h = i.2 next (off-right l (bars e y) (bars e z) next qs) in
+            let d = g.2 next (off-right l (bars e y ++ bars e z) (bars e x) next q) in
+            let w = choice-some (test d.0) (Spells l R y) (Spells l R z) next c.0 h.0 (subst (λ n. Spells l R y (n ++ next) next c.0) none c.1)
+            (subst (λ n. Spells l R z (n ++ next) next h.0) neither h.1) in
+            (pair d.0 w.0, (next, d.0, w.0, d.1, w.1, refl)),
       )
 
   -- what a part that may be empty gives where nothing of it stands
@@ -214,6 +226,27 @@ module _ {A : Type 0} (l : Language A) (tails : ℕ → List ℕ) (f : Fits l ta
       let none : k.0 ≡ [] = kinds_of-nil l k.0 (k.1 ∙ word-empty e y n) in
       let c = k.2 next q in
       (c.0, subst (λ m. Spells l R y (m ++ next) next c.0) none c.1)
+
+  -- behind the first part of `on`
+  pub side-completed : (R : ℕ → Relation A) → ((n : ℕ) → Begins l (l.heads n) false (R n)) → (test : Tree A → Bool) (x y z : Grammar A) (a : Tree A) (mid ts c : List A)
+      → Moved l (bars e x) (Spells l R x) ts mid a → (v : Grammar A) → ((now next : List A) (u : Tree A) → Spells l R v now next u → Choice (test a) (Spells l R y) (Spells l R z) now next u)
+      → ((next : List A) → Off l ((bars e y ++ bars e z) ++ bars e x) next → Off l (bars e v) next)
+      → ((next : List A) → Off l (bars e v) next → (u : Tree A) × Spells l R v next next u) → Completed l (bars e v) (Spells l R v) mid c
+      → Completed l ((bars e y ++ bars e z) ++ bars e x) (Spells l R (on test x y z)) ts c
+  unfolding Spells
+  side-completed R b test x y z a mid ts c moved v lift offs nothing k = elim (at_start k.0) [
+    | inl i ↦
+        let here : mid ≡ c = k.1 ∙ ap (λ n. n ++ c) i in (
+          moved.0,
+          moved.1 ∙ ap (λ n. moved.0 ++ n) here,
+          [],
+          λ next o.
+              let q = nothing next (offs next o) in
+              (pair a q.0, (next, a, q.0, moved.2 next (inr (off-right l (bars e y ++ bars e z) (bars e x) next o)), lift next next q.0 q.1, refl)),
+        )
+    | inr i ↦ behind-completed l (bars e x) (bars e v) (Spells l R x) (Spells l R v) (Spells l R (on test x y z)) a mid ts c moved
+        (λ now middle next u p q. (pair a u, (middle, a, u, p, lift middle next u q, refl))) k ((bars e y ++ bars e z) ++ bars e x) offs (λ j next q. absurd (i j))
+  ]
 
   pub read_at-completed : (R : ℕ → Relation A) (limit : ℕ) (r : ℕ → List A → Answer A) → ((n : ℕ) → Begins l (l.heads n) false (R n))
       → ((n : ℕ) → Sound (R n) (r n)) → ((n : ℕ) → n < e.size → Moves l (e.shuts n) (R n)) → ((n : ℕ) → n < e.size → Example l (e.shuts n) (e.words n) (R n))
@@ -336,38 +369,35 @@ module _ {A : Type 0} (l : Language A) (tails : ℕ → List ℕ) (f : Fits l ta
       by [] i more g h here = here i
       by (t ∷ front) i more g h here =
           (t ∷ front, i, more, λ next q. ((g next q).0, (sym (ap (λ n. starts l test n) i) ∙ h, (g next q).1)))
-  read_at-completed R limit r b s m w k (on test x y) p v ts c d =
-      let v₁ = and_both (nullable y) _ v in
-      let v₂ = and_both (clear l.heads e x) (clear l.heads e y) v₁.1 in
-      elim (bind_err (read_at l limit r x ts) (second l (λ a. perhaps (test a) (read_at l limit r y))) c d) [
+  read_at-completed R limit r b s m w k (on test x y z) p v ts c d =
+      let v₁ = and_both (and (nullable y) (nullable z)) _ v in
+      let n = and_both (nullable y) (nullable z) v₁.0 in
+      let v₂ = and_both (clear l.heads e x) _ v₁.1 in
+      let v₃ = and_both (clear l.heads e y) (clear l.heads e z) v₂.1 in
+      elim (bind_err (read_at l limit r x ts) (second l (λ a. choose (test a) (read_at l limit r y) (read_at l limit r z))) c d) [
         | inl g ↦
             let k₁ = read_at-completed R limit r b s m w k x p.0 v₂.0 ts c g in (
               k₁.0,
               k₁.1,
               k₁.2,
-              λ next z.
-                  let q = spells-nothing R b y p.1 v₂.1 v₁.0 w next (off-left l (bars e y) (bars e x) next z) in
-                  let u = k₁.3 next (off-right l (bars e y) (bars e x) next z) in
-                  let i = perhaps-some (test u.0) (Spells l R y) next q.0 q.1 in
+              λ next o.
+                  let os = off-left l (bars e y ++ bars e z) (bars e x) next o in
+                  let q = spells-nothing R b y p.1 v₃.0 n.0 w next (off-left l (bars e y) (bars e z) next os) in
+                  let h = spells-nothing R b z p.2 v₃.1 n.1 w next (off-right l (bars e y) (bars e z) next os) in
+                  let u = k₁.3 next (off-right l (bars e y ++ bars e z) (bars e x) next o) in
+                  let i = choice-some (test u.0) (Spells l R y) (Spells l R z) next q.0 h.0 q.1 h.1 in
                   (pair u.0 i.0, (next, u.0, i.0, u.1, i.1, refl)),
             )
-        | inr g ↦ elim (bind_err (perhaps (test (g.0).0) (read_at l limit r y) (g.0).1) (λ q. Ok (pair (g.0).0 q.0, q.1)) c g.2) [
+        | inr g ↦ elim (bind_err (choose (test (g.0).0) (read_at l limit r y) (read_at l limit r z) (g.0).1) (λ q. Ok (pair (g.0).0 q.0, q.1)) c g.2) [
           | inl j ↦
-              let h = perhaps_err (test (g.0).0) (read_at l limit r y) (g.0).1 c j in
               let moved = spells-moved R b m x p.0 v₂.0 ts (g.0).1 (g.0).0 (read_at-sound l R limit r s x ts g.0 g.1) in
-              let k₂ = read_at-completed R limit r b s m w k y p.1 v₂.1 (g.0).1 c h.1 in
-              elim (at_start k₂.0) [
-                | inl z ↦
-                    let here : (g.0).1 ≡ c.1 = k₂.1 ∙ ap (λ n. n ++ c.1) z in (
-                      moved.0,
-                      moved.1 ∙ ap (λ n. moved.0 ++ n) here,
-                      [],
-                      λ next z.
-                          let q = spells-nothing R b y p.1 v₂.1 v₁.0 w next (off-left l (bars e y) (bars e x) next z) in
-                          (pair (g.0).0 q.0, (next, (g.0).0, q.0, moved.2 next (inr (off-right l (bars e y) (bars e x) next z)), inl (h.0, q.1), refl)),
-                    )
-                | inr z ↦ behind-completed l (bars e x) (bars e y) (Spells l R x) (Spells l R y) (Spells l R (on test x y)) (g.0).0 (g.0).1 ts c.1 moved
-                    (λ now middle next a u q. (pair (g.0).0 a, (middle, (g.0).0, a, u, inl (h.0, q), refl))) k₂ (bars e y ++ bars e x) (λ next z. off-left l (bars e y) (bars e x) next z) (λ i next q. absurd (z i))
+              elim (chosen (test (g.0).0) (read_at l limit r y (g.0).1) (read_at l limit r z (g.0).1) (Err c) j) [
+                | inl h ↦ side-completed R b test x y z (g.0).0 (g.0).1 ts c.1 moved y (λ now next u q. inl (h.0, q))
+                    (λ next o. off-left l (bars e y) (bars e z) next (off-left l (bars e y ++ bars e z) (bars e x) next o))
+                    (spells-nothing R b y p.1 v₃.0 n.0 w) (read_at-completed R limit r b s m w k y p.1 v₃.0 (g.0).1 c h.1)
+                | inr h ↦ side-completed R b test x y z (g.0).0 (g.0).1 ts c.1 moved z (λ now next u q. inr (h.0, q))
+                    (λ next o. off-right l (bars e y) (bars e z) next (off-left l (bars e y ++ bars e z) (bars e x) next o))
+                    (spells-nothing R b z p.2 v₃.1 n.1 w) (read_at-completed R limit r b s m w k z p.2 v₃.1 (g.0).1 c h.1)
               ]
           | inr h ↦ absurd (cc (h.2))
         ]

@@ -3,7 +3,7 @@ use Rattle.std.proofs.Common.{inl, inr, true, false, Bool, ◌⊎◌, ◌≡◌,
 use Rattle.std.specs.Prelude.{if◌then◌else◌, ◌||◌}
 use Rattle.grammar.specs.Kinds.{among}
 use Rattle.grammar.specs.Grammar.{Tree, tip, pair, node, Grammar, empty, token, call, line, both, either, fork, many, named, prefer, starting, on, Language, starts, Derives}
-use Rattle.grammar.specs.Reading.{Answer, ◌>>=◌, nullable, firsts, further, furthest, perhaps, token_at, refused, many_at, read_at, read}
+use Rattle.grammar.specs.Reading.{Answer, ◌>>=◌, nullable, firsts, further, furthest, perhaps, choose, token_at, refused, many_at, read_at, read}
 use Rattle.grammar.specs.Tests.{NotBoth, Apart, InPlace, Fits, AllApart}
 use Rattle.grammar.proofs.Laws.{bind_ok, bind_err, same_err, chosen, branch, branch_not, fork_ok, fork_err, further-is, plus, second, turn, derives-more}
 use Rattle.grammar.proofs.Local.{furthest-second}
@@ -39,6 +39,10 @@ bind-grows rd rd' f f' g h = (
 pub perhaps-grows : {A : Type 0} (b : Bool) (rd rd' : List A → Answer A) → Grows rd rd' → Grows (perhaps b rd) (perhaps b rd')
 perhaps-grows true rd rd' g = g
 perhaps-grows false rd rd' g = same-grows (λ ts. Ok (tip, ts))
+
+pub choose-grows : {A : Type 0} (b : Bool) (rd rd' sd sd' : List A → Answer A) → Grows rd rd' → Grows sd sd' → Grows (choose b rd sd) (choose b rd' sd')
+choose-grows true rd rd' sd sd' g h = g
+choose-grows false rd rd' sd sd' g h = h
 
 pub fork-grows : {A : Type 0} (a a' b b' : List A → Answer A) → NotBoth a' b' → Grows a a' → Grows b b' → Grows (λ ts. furthest (a ts) (b ts)) (λ ts. furthest (a' ts) (b' ts))
 fork-grows {A} a a' b b' n g h = (
@@ -130,9 +134,11 @@ module _ {A : Type 0} (l : Language A) where
   read_at-grows limit r r' m i d (starting test x) p s =
       branch-grows test (read_at l limit r x) (read_at l limit r' x) (λ ts. Err (false, ts)) (λ ts. Err (false, ts)) (read_at-grows limit r r' m i d x p s)
       (same-grows (λ ts. Err (false, ts)))
-  read_at-grows limit r r' m i d (on test x y) p s =
-      second-grows (read_at l limit r x) (read_at l limit r' x) (λ a. perhaps (test a) (read_at l limit r y)) (λ a. perhaps (test a) (read_at l limit r' y))
-      (read_at-grows limit r r' m i d x p.0 s.0) (λ a. perhaps-grows (test a) (read_at l limit r y) (read_at l limit r' y) (read_at-grows limit r r' m i d y p.1 s.1))
+  read_at-grows limit r r' m i d (on test x y z) p s =
+      second-grows (read_at l limit r x) (read_at l limit r' x) (λ a. choose (test a) (read_at l limit r y) (read_at l limit r z))
+      (λ a. choose (test a) (read_at l limit r' y) (read_at l limit r' z)) (read_at-grows limit r r' m i d x p.0 s.0)
+      (λ a. choose-grows (test a) (read_at l limit r y) (read_at l limit r' y) (read_at l limit r z) (read_at l limit r' z) (read_at-grows limit r r' m i d y p.1 s.1)
+      (read_at-grows limit r r' m i d z p.2 s.2))
 
 module _ {A : Type 0} (l : Language A) (tails : ℕ → List ℕ) (f : Fits l tails) where
   -- what stands behind a part that is stuck or nothing
@@ -149,6 +155,10 @@ module _ {A : Type 0} (l : Language A) (tails : ℕ → List ℕ) (f : Fits l ta
   pub perhaps-stuck : (b none : Bool) (rd : List A → Answer A) (ts : List A) → Stuck none (rd ts) ts → Stuck true (perhaps b rd ts) ts
   perhaps-stuck true none rd ts p = elim p [ inl h ↦ inl h | inr h ↦ inr (refl, h.1, h.2) ]
   perhaps-stuck false none rd ts p = inr (refl, tip, refl)
+
+  pub choose-stuck : (b none none' : Bool) (rd rd' : List A → Answer A) (ts : List A) → Stuck none (rd ts) ts → Stuck none' (rd' ts) ts → Stuck true (choose b rd rd' ts) ts
+  choose-stuck true none none' rd rd' ts p q = elim p [ inl h ↦ inl h | inr h ↦ inr (refl, h.1, h.2) ]
+  choose-stuck false none none' rd rd' ts p q = elim q [ inl h ↦ inl h | inr h ↦ inr (refl, h.1, h.2) ]
 
   pub read_at-stuck : (limit : ℕ) (r : ℕ → List A → Answer A) → ((n : ℕ) (ts : List A) → Off l (l.heads n) ts → r n ts ≡ Err (false, ts))
       → (x : Grammar A) → InPlace l.rules x → (ts : List A) → Off l (firsts l.heads x) ts → Stuck (nullable x) (read_at l limit r x ts) ts
@@ -199,11 +209,14 @@ module _ {A : Type 0} (l : Language A) (tails : ℕ → List ℕ) (f : Fits l ta
     ]
     | inr k ↦ inl (branch_not _ _ _ k)
   ]
-  read_at-stuck limit r m (on test x y) p ts o =
-      elim (second-stuck (nullable x) true (read_at l limit r x ts) (λ a. perhaps (test a) (read_at l limit r y)) ts
+  read_at-stuck limit r m (on test x y z) p ts o =
+      let os : nullable x ≡ true → Off l (firsts l.heads y ++ firsts l.heads z) ts =
+      λ n. last_off l (nullable x) (firsts l.heads y ++ firsts l.heads z) ts n (off-right l (firsts l.heads x) _ ts o) in
+      elim (second-stuck (nullable x) true (read_at l limit r x ts) (λ a. choose (test a) (read_at l limit r y) (read_at l limit r z)) ts
       (read_at-stuck limit r m x p.0 ts (off-left l (firsts l.heads x) _ ts o))
-      (λ n a. perhaps-stuck (test a) (nullable y) (read_at l limit r y) ts
-      (read_at-stuck limit r m y p.1 ts (last_off l (nullable x) (firsts l.heads y) ts n (off-right l (firsts l.heads x) _ ts o))))) [
+      (λ n a. choose-stuck (test a) (nullable y) (nullable z) (read_at l limit r y) (read_at l limit r z) ts
+      (read_at-stuck limit r m y p.1 ts (off-left l (firsts l.heads y) (firsts l.heads z) ts (os n)))
+      (read_at-stuck limit r m z p.2 ts (off-right l (firsts l.heads y) (firsts l.heads z) ts (os n))))) [
         | inl h ↦ inl h
         | inr h ↦ inr (one (nullable x) h.0, h.1, h.2)
       ]

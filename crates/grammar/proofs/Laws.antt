@@ -4,8 +4,8 @@ use Rattle.std.proofs.lemmas.List.{append_assoc}
 use Rattle.std.proofs.lemmas.Bool.Decides.{eqb_tells}
 use Rattle.std.specs.Prelude.{if◌then◌else◌, ◌==◌, nat_le}
 use Rattle.grammar.specs.Kinds.{among}
-use Rattle.grammar.specs.Grammar.{Tree, tip, leaf, pair, node, Grammar, empty, token, call, line, both, either, fork, many, named, prefer, starting, on, Language, Relation, Perhaps, Chain, starts, Spells, Derives}
-use Rattle.grammar.specs.Reading.{Fault, Answer, ◌>>=◌, firsts, further, later, furthest, perhaps, token_at, refused, many_at, read_at, read}
+use Rattle.grammar.specs.Grammar.{Tree, tip, leaf, pair, node, Grammar, empty, token, call, line, both, either, fork, many, named, prefer, starting, on, Language, Relation, Perhaps, Choice, Chain, starts, Spells, Derives}
+use Rattle.grammar.specs.Reading.{Fault, Answer, ◌>>=◌, firsts, further, later, furthest, perhaps, choose, token_at, refused, many_at, read_at, read}
 
 -- what follows where the first was read
 pub bind_ok : {A : Type 0} (r : Answer A) (f : Tree A × List A → Answer A) (x : Tree A × List A) → (r >>= f) ≡ Ok x → (y : Tree A × List A) × (r ≡ Ok y) × (f y ≡ Ok x)
@@ -94,6 +94,12 @@ Sound {A} Q rd = (ts : List A) (p : Tree A × List A) → rd ts ≡ Ok p → Q t
 
 pub perhaps-sound : {A : Type 0} (b : Bool) (Q : Relation A) (rd : List A → Answer A) → Sound Q rd → Sound (Perhaps b Q) (perhaps b rd)
 perhaps-sound b Q rd s ts p e = elim (perhaps_ok b rd ts p e) [ inl h ↦ inl (h.0, s ts p h.1) | inr h ↦ inr h ]
+
+pub choice-more : {A : Type 0} (b : Bool) (Q Q' S S' : Relation A) → Within Q Q' → Within S S' → Within (Choice b Q S) (Choice b Q' S')
+choice-more b Q Q' S S' v w ts rest a e = elim e [ inl h ↦ inl (h.0, v ts rest a h.1) | inr h ↦ inr (h.0, w ts rest a h.1) ]
+
+pub choice-sound : {A : Type 0} (b : Bool) (Q S : Relation A) (rd rd' : List A → Answer A) → Sound Q rd → Sound S rd' → Sound (Choice b Q S) (choose b rd rd')
+choice-sound b Q S rd rd' s t ts p e = elim (chosen b (rd ts) (rd' ts) (Ok p) e) [ inl h ↦ inl (h.0, s ts p h.1) | inr h ↦ inr (h.0, t ts p h.1) ]
 
 module _ {A : Type 0} (l : Language A) where
   pub token-ok : (kinds : List ℕ) (ts : List A) (p : Tree A × List A) → token_at l kinds ts ≡ Ok p
@@ -189,15 +195,15 @@ module _ {A : Type 0} (l : Language A) where
         | inl h ↦ (h.0, read_at-sound R limit r s x ts p h.1)
         | inr h ↦ absurd (cc (h.1))
       ]
-  read_at-sound R limit r s (on test x y) ts p e =
-      let f = bind_ok (read_at l limit r x ts) (second (λ a. perhaps (test a) (read_at l limit r y))) p e in
-      let k = bind_ok (perhaps (test (f.0).0) (read_at l limit r y) (f.0).1) (λ q. Ok (pair (f.0).0 q.0, q.1)) p f.2 in
-      subst (λ q. Spells l R (on test x y) ts q.1 q.0) (same_ok _ _ k.2) (
+  read_at-sound R limit r s (on test x y z) ts p e =
+      let f = bind_ok (read_at l limit r x ts) (second (λ a. choose (test a) (read_at l limit r y) (read_at l limit r z))) p e in
+      let k = bind_ok (choose (test (f.0).0) (read_at l limit r y) (read_at l limit r z) (f.0).1) (λ q. Ok (pair (f.0).0 q.0, q.1)) p f.2 in
+      subst (λ q. Spells l R (on test x y z) ts q.1 q.0) (same_ok _ _ k.2) (
         (f.0).1,
         (f.0).0,
         (k.0).0,
         read_at-sound R limit r s x ts f.0 f.1,
-        perhaps-sound (test (f.0).0) (Spells l R y) (read_at l limit r y) (read_at-sound R limit r s y) (f.0).1 k.0 k.1,
+        choice-sound (test (f.0).0) (Spells l R y) (Spells l R z) (read_at l limit r y) (read_at l limit r z) (read_at-sound R limit r s y) (read_at-sound R limit r s z) (f.0).1 k.0 k.1,
         refl,
       )
 
@@ -227,8 +233,14 @@ module _ {A : Type 0} (l : Language A) where
   spells-more R S w (named name x) ts rest a e = (e.0, spells-more R S w x ts rest e.0 e.1, e.2)
   spells-more R S w (prefer kinds x) ts rest a e = elim e [ inl h ↦ inl (spells-more R S w x ts rest a h) | inr h ↦ inr h ]
   spells-more R S w (starting test x) ts rest a e = (e.0, spells-more R S w x ts rest a e.1)
-  spells-more R S w (on test x y) ts rest a e =
-      (e.0, e.1, e.2, spells-more R S w x ts e.0 e.1 e.3, perhaps-more (test e.1) (Spells l R y) (Spells l S y) (spells-more R S w y) e.0 rest e.2 e.4, e.5)
+  spells-more R S w (on test x y z) ts rest a e = (
+    e.0,
+    e.1,
+    e.2,
+    spells-more R S w x ts e.0 e.1 e.3,
+    choice-more (test e.1) (Spells l R y) (Spells l S y) (Spells l R z) (Spells l S z) (spells-more R S w y) (spells-more R S w z) e.0 rest e.2 e.4,
+    e.5,
+  )
 
   pub derives-more : (depth name : ℕ) → Within (Derives l depth name) (Derives l (suc depth) name)
   unfolding Derives

@@ -4,7 +4,7 @@ use Rattle.std.proofs.lemmas.List.{length-append}
 use Rattle.std.specs.Prelude.{if◌then◌else◌}
 use Rattle.grammar.specs.Kinds.{among, apart, covers, not}
 use Rattle.grammar.specs.Grammar.{Tree, tip, pair, node, Grammar, empty, token, call, line, both, either, fork, many, named, prefer, starting, on, Language, Relation, starts, Derives, Viable, NoneGoesOn}
-use Rattle.grammar.specs.Reading.{Fault, Answer, ◌>>=◌, nullable, firsts, furthest, perhaps, refused, many_at, read_at, read}
+use Rattle.grammar.specs.Reading.{Fault, Answer, ◌>>=◌, nullable, firsts, furthest, perhaps, choose, refused, many_at, read_at, read}
 use Rattle.grammar.specs.Tests.{decided, goes_on, InPlace, Fits, AllApart, Examples, Opens}
 use Rattle.grammar.proofs.Laws.{second, turn, Sound, read_at-sound, read-sound}
 use Rattle.grammar.proofs.Sets.{and_both, not_true, begun-surely}
@@ -22,6 +22,10 @@ bind-agree (Err c) r' f f' e h = ap (λ v. v >>= f') e
 pub perhaps-agree : {A : Type 0} (b : Bool) (rd rd' : List A → Answer A) (ts : List A) → rd ts ≡ rd' ts → perhaps b rd ts ≡ perhaps b rd' ts
 perhaps-agree true rd rd' ts e = e
 perhaps-agree false rd rd' ts e = refl
+
+pub choose-agree : {A : Type 0} (b : Bool) (rd rd' sd sd' : List A → Answer A) (ts : List A) → rd ts ≡ rd' ts → sd ts ≡ sd' ts → choose b rd sd ts ≡ choose b rd' sd' ts
+choose-agree true rd rd' sd sd' ts e f = e
+choose-agree false rd rd' sd sd' ts e f = f
 
 module _ {A : Type 0} (l : Language A) (tails : ℕ → List ℕ) (f : Fits l tails) where
   -- Each member is shorter than the list was.
@@ -83,15 +87,19 @@ module _ {A : Type 0} (l : Language A) (tails : ℕ → List ℕ) (f : Fits l ta
   read_at-agree R low high bound r r' j k b s m (starting test x) p d ts c =
       let d₁ = and_both (not (nullable x)) _ d in
       ap (λ v. if starts l test ts then v else Err (false, ts)) (read_at-agree R low high bound r r' j k b s m x p d₁.1 ts c)
-  read_at-agree R low high bound r r' j k b s m (on test x y) p d ts c =
-      let d₁ = and_both (apart (goes_on l.heads tails x) (firsts l.heads y)) _ d in
-      let d₂ = and_both (decided l.heads tails x) (decided l.heads tails y) d₁.1 in
-      bind-agree (read_at l low r x ts) (read_at l high r' x ts) (second l (λ a. perhaps (test a) (read_at l low r y))) (second l (λ a. perhaps (test a) (read_at l high r' y)))
+  read_at-agree R low high bound r r' j k b s m (on test x y z) p d ts c =
+      let d₁ = and_both (apart (goes_on l.heads tails x) (firsts l.heads y ++ firsts l.heads z)) _ d in
+      let d₂ = and_both (decided l.heads tails x) _ d₁.1 in
+      let d₃ = and_both (decided l.heads tails y) (decided l.heads tails z) d₂.1 in
+      bind-agree (read_at l low r x ts) (read_at l high r' x ts) (second l (λ a. choose (test a) (read_at l low r y) (read_at l low r z)))
+      (second l (λ a. choose (test a) (read_at l high r' y) (read_at l high r' z)))
       (read_at-agree R low high bound r r' j k b s m x p.0 d₂.0 ts c)
       (λ q e.
       let shorter = derived-shorter l tails f R b x p.0 ts q.1 q.0 (read_at-sound l R low r s x ts q e) in
       ap (λ v. v >>= λ z. Ok (pair q.0 z.0, z.1))
-      (perhaps-agree (test q.0) (read_at l low r y) (read_at l high r' y) q.1 (read_at-agree R low high bound r r' j k b s m y p.1 d₂.1 q.1 (omega (arith, c, shorter)))))
+      (choose-agree (test q.0) (read_at l low r y) (read_at l high r' y) (read_at l low r z) (read_at l high r' z) q.1
+      (read_at-agree R low high bound r r' j k b s m y p.1 d₃.0 q.1 (omega (arith, c, shorter)))
+      (read_at-agree R low high bound r r' j k b s m z p.2 d₃.1 q.1 (omega (arith, c, shorter)))))
 
   pub read-agree : (low high bound : ℕ) → bound ≤ low → bound ≤ high → (depth n : ℕ) → Agree bound (read l low depth n) (read l high depth n)
   unfolding read

@@ -5,7 +5,7 @@ use Rattle.std.proofs.lemmas.Bool.Decides.{leb_tells}
 use Rattle.std.specs.Prelude.{if◌then◌else◌, ◌||◌, nat_le}
 use Rattle.grammar.specs.Kinds.{among}
 use Rattle.grammar.specs.Grammar.{Tree, tip, leaf, pair, node, Grammar, empty, token, call, line, both, either, fork, many, named, prefer, starting, on, Language, starts}
-use Rattle.grammar.specs.Reading.{Fault, Answer, ◌>>=◌, firsts, further, later, furthest, perhaps, token_at, refused, many_at, read_at, read}
+use Rattle.grammar.specs.Reading.{Fault, Answer, ◌>>=◌, firsts, further, later, furthest, perhaps, choose, token_at, refused, many_at, read_at, read}
 use Rattle.grammar.specs.Tests.{InPlace, NotBoth, Apart}
 use Rattle.grammar.proofs.Laws.{bind_ok, bind_err, same_ok, same_err, chosen, branch, branch_not, token-ok, token-err, fork_ok, fork_err, rows, second, turn}
 
@@ -215,6 +215,10 @@ module _ {A : Type 0} (l : Language A) (t : A) (u v : List A) where
   perhaps-tame true rd m = m
   perhaps-tame false rd m = done-tame tip
 
+  pub choose-tame : (b : Bool) (rd rd' : List A → Answer A) → IsTame rd → IsTame rd' → IsTame (choose b rd rd')
+  choose-tame true rd rd' m n = m
+  choose-tame false rd rd' m n = n
+
   pub many-tame : (test : ℕ → Bool) (more : Tree A → Bool) (rd : List A → Answer A) → IsTame rd → (n : ℕ) → IsTame (many_at l test more rd n)
   unfolding many_at
   many-tame test more rd m zero = wrong-tame
@@ -255,9 +259,9 @@ module _ {A : Type 0} (l : Language A) (t : A) (u v : List A) where
       branch-tame (among kinds) (read_at l limit r x) (λ ts. Ok (tip, ts)) (read_at-tame limit r m i d x p s) (done-tame tip)
   read_at-tame limit r m i d (starting test x) p s =
       branch-tame test (read_at l limit r x) (λ ts. Err (false, ts)) (read_at-tame limit r m i d x p s) wrong-tame
-  read_at-tame limit r m i d (on test x y) p s =
-      second-tame (read_at l limit r x) (λ a. perhaps (test a) (read_at l limit r y)) (read_at-tame limit r m i d x p.0 s.0)
-      (λ a. perhaps-tame (test a) (read_at l limit r y) (read_at-tame limit r m i d y p.1 s.1))
+  read_at-tame limit r m i d (on test x y z) p s =
+      second-tame (read_at l limit r x) (λ a. choose (test a) (read_at l limit r y) (read_at l limit r z)) (read_at-tame limit r m i d x p.0 s.0)
+      (λ a. choose-tame (test a) (read_at l limit r y) (read_at l limit r z) (read_at-tame limit r m i d y p.1 s.1) (read_at-tame limit r m i d z p.2 s.2))
 
   pub read-tame : (limit : ℕ) → ((n : ℕ) → InPlace l.rules (l.rules n)) → ((depth n : ℕ) → Apart l limit (read l limit depth) (l.rules n))
       → (depth n : ℕ) → IsTame (read l limit depth n)

@@ -1,5 +1,5 @@
 -- Brackets in what is derived stand in pairs, so the two readings of a fork exclude each other.
-use Rattle.std.proofs.Common.{inl, inr, true, false, Bool, ◌⊎◌, ◌≡◌, ◌-◌, ℕ, zero, suc, ◌+◌, List, [], ◌∷◌, refl, ap, sym, subst, ◌∙◌, arith}
+use Rattle.std.proofs.Common.{◌++◌, inl, inr, true, false, Bool, ◌⊎◌, ◌≡◌, ◌-◌, ℕ, zero, suc, ◌+◌, List, [], ◌∷◌, refl, ap, sym, subst, ◌∙◌, arith}
 use Rattle.std.proofs.lemmas.Bool.{eqb-true}
 use Rattle.std.specs.Prelude.{if◌then◌else◌, ◌==◌}
 use Rattle.grammar.specs.Kinds.{among, apart, covers, and, not}
@@ -9,7 +9,7 @@ use Rattle.grammar.specs.Tests.{NotBoth, Apart, InPlace, Fits, AllApart}
 use Rattle.grammar.specs.Pairs.{Forks, same_pair, levels, even, is_token, shuts_one, wrapped, leads, alone, is_head, before_stop, told, paired, Told}
 use Rattle.grammar.proofs.Laws.{refused_ok, read_at-sound, read-sound}
 use Rattle.grammar.proofs.Sets.{and_both, not_true, is_or_not, test_was, false_by, apart-tells, covers-tells, At, off-apart, at-covered, Begun, begun-surely}
-use Rattle.grammar.proofs.Complete.{Begins, in-place, spells-begun, derives-begun}
+use Rattle.grammar.proofs.Complete.{Begins, choice-begun, in-place, spells-begun, derives-begun}
 
 pub same_pair-same : (a b : ℕ × ℕ) → same_pair a b ≡ true → a ≡ b
 same_pair-same a b e =
@@ -144,13 +144,18 @@ module _ {A : Type 0} (l : Language A) (tails : ℕ → List ℕ) (f : Fits l ta
         | inr h ↦ ap (closing l b (0 + level)) h.0
       ]
   spells-scans R s (starting test x) p v ts rest a e level = spells-scans R s x p v ts rest a e.1 level
-  spells-scans R s (on test x y) p v ts rest a e level =
-      let v₁ = and_both (same_pair (levels b y) (0, 0)) _ v in
-      let v₂ = and_both (even b x) (even b y) v₁.1 in
-      let flat : Scans l b (0, 0) (Spells l R y) = subst (λ c. Scans l b c (Spells l R y)) (same_pair-same _ _ v₁.0) (spells-scans R s y p.1 v₂.1) in
-      spells-scans R s x p.0 v₂.0 ts e.0 e.1 e.3 level
-      ∙ perhaps-scans l b (test e.1) (Spells l R y) e.0 rest e.2 e.4 ((levels b x).1 + level)
-      (λ c. ap (λ n. closing l b n e.0) (nothing ((levels b x).1 + level)) ∙ flat e.0 rest e.2 c ((levels b x).1 + level) ∙ ap (λ n. closing l b n rest) (sym (nothing ((levels b x).1 + level))))
+  spells-scans R s (on test x y z) p v ts rest a e level =
+      let v₁ = and_both (and (same_pair (levels b y) (0, 0)) (same_pair (levels b z) (0, 0))) _ v in
+      let v₂ = and_both (same_pair (levels b y) (0, 0)) (same_pair (levels b z) (0, 0)) v₁.0 in
+      let v₃ = and_both (even b x) _ v₁.1 in
+      let v₄ = and_both (even b y) (even b z) v₃.1 in
+      let one : Scans l b (0, 0) (Spells l R y) = subst (λ c. Scans l b c (Spells l R y)) (same_pair-same _ _ v₂.0) (spells-scans R s y p.1 v₄.0) in
+      let two : Scans l b (0, 0) (Spells l R z) = subst (λ c. Scans l b c (Spells l R z)) (same_pair-same _ _ v₂.1) (spells-scans R s z p.2 v₄.1) in
+      let after = (levels b x).1 + level in
+      spells-scans R s x p.0 v₃.0 ts e.0 e.1 e.3 level
+      ∙ ap (λ n. closing l b n e.0) (nothing after)
+      ∙ elim e.4 [ inl h ↦ one e.0 rest e.2 h.1 after | inr h ↦ two e.0 rest e.2 h.1 after ]
+      ∙ ap (λ n. closing l b n rest) (sym (nothing after))
     where
       nothing : (n : ℕ) → n ≡ 0 + n
       nothing n = omega arith
@@ -185,7 +190,7 @@ module _ {A : Type 0} (l : Language A) (tails : ℕ → List ℕ) (f : Fits l ta
   shuts-found R s (named name x) p v ts rest a e = shuts-found R s x p v ts rest e.0 e.1
   shuts-found R s (prefer kinds x) p v ts rest a e = absurd (cc (v))
   shuts-found R s (starting test x) p v ts rest a e = shuts-found R s x p v ts rest a e.1
-  shuts-found R s (on test x y) p v ts rest a e = absurd (cc (v))
+  shuts-found R s (on test x y z) p v ts rest a e = absurd (cc (v))
 
   pub token-told : (R : ℕ → Relation A) (x : Grammar A) → is_token x ≡ true → (ts rest : List A) (a : Tree A) → Spells l R x ts rest a → (t : A) × (ts ≡ t ∷ rest)
   unfolding Spells
@@ -210,7 +215,7 @@ module _ {A : Type 0} (l : Language A) (tails : ℕ → List ℕ) (f : Fits l ta
   wrapped-found R s (named name x) p v ts rest a e = wrapped-found R s x p v ts rest e.0 e.1
   wrapped-found R s (prefer kinds x) p v ts rest a e = absurd (cc (v))
   wrapped-found R s (starting test x) p v ts rest a e = wrapped-found R s x p v ts rest a e.1
-  wrapped-found R s (on test x y) p v ts rest a e = absurd (cc (v))
+  wrapped-found R s (on test x y z) p v ts rest a e = absurd (cc (v))
 
   -- The brackets of both readings close at one place.
   pub one-end : (depth : ℕ) (ts rest rest' : List A) (a a' : Tree A) → Derives l depth b.group ts rest a → Derives l depth b.listed ts rest' a' → rest ≡ rest'
@@ -260,24 +265,12 @@ module _ {A : Type 0} (l : Language A) (tails : ℕ → List ℕ) (f : Fits l ta
   leads-found R q stop (named name x) p v ts rest a e i = leads-found R q stop x p v ts rest e.0 e.1 i
   leads-found R q stop (prefer kinds x) p v ts rest a e i = absurd (cc (v))
   leads-found R q stop (starting test x) p v ts rest a e i = leads-found R q stop x p v ts rest a e.1 i
-  leads-found R q stop (on test x y) p v ts rest a e i =
-      let v₁ = and_both (leads l.heads b stop x) (apart (firsts l.heads y) stop) v in
-      let k = leads-found R q stop x p.0 v₁.0 ts e.0 e.1 e.3 i in (
-        k.0,
-        k.1,
-        k.2,
-        λ j. elim e.4 [
-          | inl h ↦ elim (spells-begun l tails f R q y p.1 e.0 rest e.2 h.1) [
-            | inl g ↦
-                let here = k.3 j in
-                let off = off-apart l (firsts l.heads y) stop k.0 v₁.1 j in
-                let on : starts l (among (firsts l.heads y)) k.0 ≡ true = ap (λ m. starts l (among (firsts l.heads y)) m) (sym here) ∙ g.0 in
-                absurd (cc (off, on))
-            | inr g ↦ sym g.1 ∙ k.3 j
-          ]
-          | inr h ↦ sym h.1 ∙ k.3 j
-        ],
-      )
+  leads-found R q stop (on test x y z) p v ts rest a e i =
+      let v₁ = and_both (leads l.heads b stop x) (apart (firsts l.heads y ++ firsts l.heads z) stop) v in
+      let k = leads-found R q stop x p.0 v₁.0 ts e.0 e.1 e.3 i in
+      let begun = choice-begun l (firsts l.heads y) (firsts l.heads z) (nullable y) (nullable z) (test e.1) (Spells l R y) (Spells l R z) e.0 rest e.2 e.4
+      (λ c. spells-begun l tails f R q y p.1 e.0 rest e.2 c) (λ c. spells-begun l tails f R q z p.2 e.0 rest e.2 c) in
+      (k.0, k.1, k.2, λ j. ended true stop (firsts l.heads y ++ firsts l.heads z) e.0 rest k.0 begun v₁.1 (k.3 j) j)
 
   -- Where a name comes next, it begins with that token alone, and nothing of `stop` goes on with it.
   pub alone-found : (R : ℕ → Relation A) → ((n : ℕ) → Begins l (l.heads n) false (R n)) → (stop : List ℕ) (x : Grammar A) → InPlace l.rules x → alone l.heads b stop x ≡ true
@@ -304,17 +297,12 @@ module _ {A : Type 0} (l : Language A) (tails : ℕ → List ℕ) (f : Fits l ta
   alone-found R q stop (named name x) p v ts rest a e i = alone-found R q stop x p v ts rest e.0 e.1 i
   alone-found R q stop (prefer kinds x) p v ts rest a e i = absurd (cc (v))
   alone-found R q stop (starting test x) p v ts rest a e i = alone-found R q stop x p v ts rest a e.1 i
-  alone-found R q stop (on test x y) p v ts rest a e i =
-      let v₁ = and_both (alone l.heads b stop x) (apart (firsts l.heads y) stop) v in
-      let k = alone-found R q stop x p.0 v₁.0 ts e.0 e.1 e.3 i in (
-        k.0,
-        k.1,
-        k.2,
-        λ j. elim e.4 [
-          | inl h ↦ ended (nullable y) stop (firsts l.heads y) e.0 rest k.1 (spells-begun l tails f R q y p.1 e.0 rest e.2 h.1) v₁.1 (k.3 j) j
-          | inr h ↦ sym h.1 ∙ k.3 j
-        ],
-      )
+  alone-found R q stop (on test x y z) p v ts rest a e i =
+      let v₁ = and_both (alone l.heads b stop x) (apart (firsts l.heads y ++ firsts l.heads z) stop) v in
+      let k = alone-found R q stop x p.0 v₁.0 ts e.0 e.1 e.3 i in
+      let begun = choice-begun l (firsts l.heads y) (firsts l.heads z) (nullable y) (nullable z) (test e.1) (Spells l R y) (Spells l R z) e.0 rest e.2 e.4
+      (λ c. spells-begun l tails f R q y p.1 e.0 rest e.2 c) (λ c. spells-begun l tails f R q z p.2 e.0 rest e.2 c) in
+      (k.0, k.1, k.2, λ j. ended true stop (firsts l.heads y ++ firsts l.heads z) e.0 rest k.1 begun v₁.1 (k.3 j) j)
 
   -- the rule of the brackets, or a name
   abbrev pub Headed : (ℕ → Relation A) → List A → List A → Type 0
@@ -335,7 +323,7 @@ module _ {A : Type 0} (l : Language A) (tails : ℕ → List ℕ) (f : Fits l ta
   head-found R (named name x) v ts rest a e = head-found R x v ts rest e.0 e.1
   head-found R (prefer kinds x) v ts rest a e = absurd (cc (v))
   head-found R (starting test x) v ts rest a e = absurd (cc (v))
-  head-found R (on test x y) v ts rest a e = absurd (cc (v))
+  head-found R (on test x y z) v ts rest a e = absurd (cc (v))
 
   pub before-found : (R : ℕ → Relation A) → ((n : ℕ) → Begins l (l.heads n) false (R n)) → (stop : List ℕ) (x : Grammar A) → InPlace l.rules x → before_stop l.heads b stop x ≡ true
       → (ts rest : List A) (a : Tree A) → Spells l R x ts rest a → (mid : List A) × Headed R ts mid × At l stop mid
@@ -357,7 +345,7 @@ module _ {A : Type 0} (l : Language A) (tails : ℕ → List ℕ) (f : Fits l ta
   before-found R q stop (named name x) p v ts rest a e = before-found R q stop x p v ts rest e.0 e.1
   before-found R q stop (prefer kinds x) p v ts rest a e = absurd (cc (v))
   before-found R q stop (starting test x) p v ts rest a e = before-found R q stop x p v ts rest a e.1
-  before-found R q stop (on test x y) p v ts rest a e = before-found R q stop x p.0 v ts e.0 e.1 e.3
+  before-found R q stop (on test x y z) p v ts rest a e = before-found R q stop x p.0 v ts e.0 e.1 e.3
 
   -- The first reading of a fork ends where the second one meets the telling token.
   pub first-ends : (depth : ℕ) (stop : List ℕ) (x : Grammar A) → InPlace l.rules x → leads l.heads b stop x ≡ true → alone l.heads b stop x ≡ true
@@ -409,8 +397,10 @@ module _ {A : Type 0} (l : Language A) (tails : ℕ → List ℕ) (f : Fits l ta
   told-apart limit depth (named name x) p v = told-apart limit depth x p v
   told-apart limit depth (prefer kinds x) p v = told-apart limit depth x p v
   told-apart limit depth (starting test x) p v = told-apart limit depth x p v
-  told-apart limit depth (on test x y) p v =
-      let v₁ = and_both (told l.heads b x) (told l.heads b y) v in (told-apart limit depth x p.0 v₁.0, told-apart limit depth y p.1 v₁.1)
+  told-apart limit depth (on test x y z) p v =
+      let v₁ = and_both (told l.heads b x) _ v in
+      let v₂ = and_both (told l.heads b y) (told l.heads b z) v₁.1 in
+      (told-apart limit depth x p.0 v₁.0, told-apart limit depth y p.1 v₂.0, told-apart limit depth z p.2 v₂.1)
 
   -- At each fork of each rule no front is read both ways.
   pub all-apart : (limit : ℕ) → AllApart l limit

@@ -53,7 +53,7 @@ unfoldable pub add_rule : Grammar ℕ
 add_rule = operators (11 ∷ []) (line 9 mul_rule)
 
 unfoldable pub assign_rule : Grammar ℕ
-assign_rule = fork (8 ∷ []) (on is_place (line 5 add_rule) (optional (both (token (7 ∷ [])) right))) (both (either (call 7) (token (0 ∷ []))) (call 8))
+assign_rule = fork (8 ∷ []) (on is_place (line 5 add_rule) (optional (both (token (7 ∷ [])) right)) empty) (both (either (call 7) (token (0 ∷ []))) (call 8))
 
 unfoldable pub expr_rule : Grammar ℕ
 expr_rule = both (line 4 assign_rule) (many always (both (token (6 ∷ [])) (line 4 assign_rule)))

@@ -3,7 +3,7 @@ use Rattle.std.proofs.Common.{true, false, Bool, ◌≡◌, ◌^◌, ℕ, zero, 
 use Rattle.std.specs.Prelude.{if◌then◌else◌, ◌||◌, nat_le}
 use Rattle.grammar.specs.Kinds.{among}
 use Rattle.grammar.specs.Grammar.{Tree, tip, leaf, pair, node, Grammar, token, call, line, both, either, fork, many, named, prefer, starting, on, empty, Language, starts}
-use Rattle.grammar.specs.Reading.{Answer, ◌>>=◌, firsts, further, furthest, perhaps, token_at, refused, many_at, read, read_at}
+use Rattle.grammar.specs.Reading.{Answer, ◌>>=◌, firsts, further, furthest, perhaps, choose, token_at, refused, many_at, read, read_at}
 use Rattle.grammar.specs.Steps.{reads, ReadTo, FaultAt}
 use Rattle.grammar.proofs.Laws.{branch, branch_not, second, turn}
 
@@ -152,32 +152,41 @@ module _ {A : Type 0} (l : Language A) where
   starting_refused depth test x tokens s = (tokens, branch_not _ _ _ s, refl)
 
   -- by the tree just read
-  pub on_read : (depth : ℕ) (test : Tree A → Bool) (x y : Grammar A) (tokens mid rest : List A) (a b : Tree A) → ReadTo l depth x tokens mid a → test a ≡ true
-      → ReadTo l depth y mid rest b → ReadTo l depth (on test x y) tokens rest (pair a b)
-  unfolding reads ReadTo read_at
-  on_read depth test x y tokens mid rest a b p s q =
-      ap (λ v. v >>= second l (λ a. perhaps (test a) (read_at l (2 ^ 64) (read l (2 ^ 64) depth) y))) p
-      ∙ ap (λ v. v >>= λ q. Ok (pair a q.0, q.1)) (branch (test a) _ (Ok (tip, mid)) s ∙ q)
+  abbrev pub on_next : ℕ → (Tree A → Bool) → (y z : Grammar A) → Tree A → List A → Answer A
+  on_next depth test y z a = choose (test a) (read_at l (2 ^ 64) (read l (2 ^ 64) depth) y) (read_at l (2 ^ 64) (read l (2 ^ 64) depth) z)
 
-  pub on_none : (depth : ℕ) (test : Tree A → Bool) (x y : Grammar A) (tokens rest : List A) (a : Tree A) → ReadTo l depth x tokens rest a → test a ≡ false
-      → ReadTo l depth (on test x y) tokens rest (pair a tip)
+  pub on_read : (depth : ℕ) (test : Tree A → Bool) (x y z : Grammar A) (tokens mid rest : List A) (a b : Tree A) → ReadTo l depth x tokens mid a → test a ≡ true
+      → ReadTo l depth y mid rest b → ReadTo l depth (on test x y z) tokens rest (pair a b)
   unfolding reads ReadTo read_at
-  on_none depth test x y tokens rest a p s =
-      ap (λ v. v >>= second l (λ a. perhaps (test a) (read_at l (2 ^ 64) (read l (2 ^ 64) depth) y))) p
-      ∙ ap (λ v. v >>= λ q. Ok (pair a q.0, q.1)) (branch_not (test a) (read_at l (2 ^ 64) (read l (2 ^ 64) depth) y rest) (Ok (tip, rest)) s)
+  on_read depth test x y z tokens mid rest a b p s q =
+      ap (λ v. v >>= second l (on_next depth test y z)) p ∙ ap (λ v. v >>= λ q. Ok (pair a q.0, q.1)) (branch (test a) _ _ s ∙ q)
 
-  pub on_first : (depth : ℕ) (test : Tree A → Bool) (x y : Grammar A) (tokens : List A) (deep : Bool) (left : ℕ) → FaultAt l depth x tokens deep left
-      → FaultAt l depth (on test x y) tokens deep left
+  pub on_other : (depth : ℕ) (test : Tree A → Bool) (x y z : Grammar A) (tokens mid rest : List A) (a b : Tree A) → ReadTo l depth x tokens mid a → test a ≡ false
+      → ReadTo l depth z mid rest b → ReadTo l depth (on test x y z) tokens rest (pair a b)
+  unfolding reads ReadTo read_at
+  on_other depth test x y z tokens mid rest a b p s q =
+      ap (λ v. v >>= second l (on_next depth test y z)) p ∙ ap (λ v. v >>= λ q. Ok (pair a q.0, q.1)) (branch_not (test a) _ _ s ∙ q)
+
+  pub on_first : (depth : ℕ) (test : Tree A → Bool) (x y z : Grammar A) (tokens : List A) (deep : Bool) (left : ℕ) → FaultAt l depth x tokens deep left
+      → FaultAt l depth (on test x y z) tokens deep left
   unfolding reads FaultAt read_at
-  on_first depth test x y tokens deep left p = (p.0, ap (λ v. v >>= second l (λ a. perhaps (test a) (read_at l (2 ^ 64) (read l (2 ^ 64) depth) y))) p.1, p.2)
+  on_first depth test x y z tokens deep left p = (p.0, ap (λ v. v >>= second l (on_next depth test y z)) p.1, p.2)
 
-  pub on_second : (depth : ℕ) (test : Tree A → Bool) (x y : Grammar A) (tokens mid : List A) (a : Tree A) (deep : Bool) (left : ℕ) → ReadTo l depth x tokens mid a
-      → test a ≡ true → FaultAt l depth y mid deep left → FaultAt l depth (on test x y) tokens deep left
+  pub on_second : (depth : ℕ) (test : Tree A → Bool) (x y z : Grammar A) (tokens mid : List A) (a : Tree A) (deep : Bool) (left : ℕ) → ReadTo l depth x tokens mid a
+      → test a ≡ true → FaultAt l depth y mid deep left → FaultAt l depth (on test x y z) tokens deep left
   unfolding reads ReadTo FaultAt read_at
-  on_second depth test x y tokens mid a deep left p s q = (
+  on_second depth test x y z tokens mid a deep left p s q = (
     q.0,
-    ap (λ v. v >>= second l (λ a. perhaps (test a) (read_at l (2 ^ 64) (read l (2 ^ 64) depth) y))) p
-        ∙ ap (λ v. v >>= λ q. Ok (pair a q.0, q.1)) (branch (test a) _ (Ok (tip, mid)) s ∙ q.1),
+    ap (λ v. v >>= second l (on_next depth test y z)) p ∙ ap (λ v. v >>= λ q. Ok (pair a q.0, q.1)) (branch (test a) _ _ s ∙ q.1),
+    q.2,
+  )
+
+  pub on_third : (depth : ℕ) (test : Tree A → Bool) (x y z : Grammar A) (tokens mid : List A) (a : Tree A) (deep : Bool) (left : ℕ) → ReadTo l depth x tokens mid a
+      → test a ≡ false → FaultAt l depth z mid deep left → FaultAt l depth (on test x y z) tokens deep left
+  unfolding reads ReadTo FaultAt read_at
+  on_third depth test x y z tokens mid a deep left p s q = (
+    q.0,
+    ap (λ v. v >>= second l (on_next depth test y z)) p ∙ ap (λ v. v >>= λ q. Ok (pair a q.0, q.1)) (branch_not (test a) _ _ s ∙ q.1),
     q.2,
   )
 

@@ -30,8 +30,8 @@ pub data Grammar (A : Type 0) : Type 0 where
   prefer : (kinds : List ℕ) → (x : Grammar A) → Grammar A
   -- it, where the kind of its first token passes
   starting : (test : ℕ → Bool) → (x : Grammar A) → Grammar A
-  -- the first, and where its tree passes the second behind it
-  on : (test : Tree A → Bool) → (x y : Grammar A) → Grammar A
+  -- the first, and behind it the second where its tree passes, else the third
+  on : (test : Tree A → Bool) → (x y z : Grammar A) → Grammar A
 
 -- The kind of each token, the rules by their names, and the kinds that each rule may begin with.
 pub record Language (A : Type 0) : Type 0 where
@@ -52,6 +52,10 @@ Relation A = List A → List A → Tree A → Type 0
 -- what the test asks for, else nothing
 abbrev pub Perhaps : {A : Type 0} → Bool → Relation A → Relation A
 Perhaps b Q ts rest tree = ((b ≡ true) × Q ts rest tree) ⊎ ((b ≡ false) × (ts ≡ rest) × (tree ≡ tip))
+
+-- the one where the test passes, else the other
+abbrev pub Choice : {A : Type 0} → Bool → Relation A → Relation A → Relation A
+Choice b Q S ts rest tree = ((b ≡ true) × Q ts rest tree) ⊎ ((b ≡ false) × S ts rest tree)
 
 -- as many as the tree lists, one behind the other
 unfoldable pub Chain : {A : Type 0} → Relation A → (Tree A → Bool) → Tree A → List A → List A → Type 0
@@ -80,8 +84,8 @@ module _ {A : Type 0} (l : Language A) where
   Spells R (named name x) ts rest tree = (a : Tree A) × Spells R x ts rest a × (tree ≡ node name a)
   Spells R (prefer kinds x) ts rest tree = Spells R x ts rest tree ⊎ ((ts ≡ rest) × (tree ≡ tip) × (starts (among kinds) rest ≡ false))
   Spells R (starting test x) ts rest tree = (starts test ts ≡ true) × Spells R x ts rest tree
-  Spells R (on test x y) ts rest tree =
-      (mid : List A) × (a b : Tree A) × Spells R x ts mid a × Perhaps (test a) (Spells R y) mid rest b × (tree ≡ pair a b)
+  Spells R (on test x y z) ts rest tree =
+      (mid : List A) × (a b : Tree A) × Spells R x ts mid a × Choice (test a) (Spells R y) (Spells R z) mid rest b × (tree ≡ pair a b)
 
   -- what a rule derives, where its calls nest fewer than so many deep
   unfoldable pub Derives : ℕ → ℕ → Relation A

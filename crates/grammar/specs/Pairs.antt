@@ -1,6 +1,6 @@
 -- Tests, which compute, by which the two readings of a fork exclude each other: one begins with brackets, the other with the same brackets and then a token
 -- that may not stand behind the first.
-use Rattle.std.specs.Prelude.{◌==◌, ◌||◌, ◌+◌, ◌-◌, Bool, true, false, ◌≡◌, ℕ, List, [], ◌∷◌, if◌then◌else◌}
+use Rattle.std.specs.Prelude.{◌++◌, ◌==◌, ◌||◌, ◌+◌, ◌-◌, Bool, true, false, ◌≡◌, ℕ, List, [], ◌∷◌, if◌then◌else◌}
 use Rattle.grammar.specs.Kinds.{apart, covers, and, not}
 use Rattle.grammar.specs.Grammar.{Grammar, empty, token, call, line, both, either, fork, many, named, prefer, starting, on, Language}
 use Rattle.grammar.specs.Reading.{nullable, firsts}
@@ -32,7 +32,7 @@ levels b (many more x) = (0, 0)
 levels b (named name x) = levels b x
 levels b (prefer kinds x) = (0, 0)
 levels b (starting test x) = levels b x
-levels b (on test x y) = levels b x
+levels b (on test x y z) = levels b x
 
 -- All that it may be closes and opens as many.
 unfoldable pub even : {A : Type 0} → Forks → Grammar A → Bool
@@ -47,7 +47,8 @@ even b (many more x) = and (same_pair (levels b x) (0, 0)) (even b x)
 even b (named name x) = even b x
 even b (prefer kinds x) = and (same_pair (levels b x) (0, 0)) (even b x)
 even b (starting test x) = even b x
-even b (on test x y) = and (same_pair (levels b y) (0, 0)) (and (even b x) (even b y))
+even b (on test x y z) =
+    and (and (same_pair (levels b y) (0, 0)) (same_pair (levels b z) (0, 0))) (and (even b x) (and (even b y) (even b z)))
 
 -- Its last token closes the bracket that stands open before it.
 unfoldable pub shuts_one : {A : Type 0} → Forks → Grammar A → Bool
@@ -62,7 +63,7 @@ shuts_one b (many more x) = false
 shuts_one b (named name x) = shuts_one b x
 shuts_one b (prefer kinds x) = false
 shuts_one b (starting test x) = shuts_one b x
-shuts_one b (on test x y) = false
+shuts_one b (on test x y z) = false
 
 abbrev pub is_token : {A : Type 0} → Grammar A → Bool
 is_token (token kinds) = true
@@ -81,7 +82,7 @@ wrapped b (many more x) = false
 wrapped b (named name x) = wrapped b x
 wrapped b (prefer kinds x) = false
 wrapped b (starting test x) = wrapped b x
-wrapped b (on test x y) = false
+wrapped b (on test x y z) = false
 
 -- Where an opening bracket comes next, it begins with the rule of what stands in brackets, behind which no kind of `stop` goes on with it.
 unfoldable pub leads : {A : Type 0} → (heads : ℕ → List ℕ) → Forks → List ℕ → Grammar A → Bool
@@ -96,7 +97,7 @@ leads heads b stop (many more x) = false
 leads heads b stop (named name x) = leads heads b stop x
 leads heads b stop (prefer kinds x) = false
 leads heads b stop (starting test x) = leads heads b stop x
-leads heads b stop (on test x y) = and (leads heads b stop x) (apart (firsts heads y) stop)
+leads heads b stop (on test x y z) = and (leads heads b stop x) (apart (firsts heads y ++ firsts heads z) stop)
 
 -- Where one of the names comes next, it begins with that token alone, behind which no kind of `stop` goes on with it.
 unfoldable pub alone : {A : Type 0} → (heads : ℕ → List ℕ) → Forks → List ℕ → Grammar A → Bool
@@ -111,7 +112,7 @@ alone heads b stop (many more x) = false
 alone heads b stop (named name x) = alone heads b stop x
 alone heads b stop (prefer kinds x) = false
 alone heads b stop (starting test x) = alone heads b stop x
-alone heads b stop (on test x y) = and (alone heads b stop x) (apart (firsts heads y) stop)
+alone heads b stop (on test x y z) = and (alone heads b stop x) (apart (firsts heads y ++ firsts heads z) stop)
 
 -- It is the rule of the brackets, or a name.
 unfoldable pub is_head : {A : Type 0} → Forks → Grammar A → Bool
@@ -126,7 +127,7 @@ is_head b (many more x) = false
 is_head b (named name x) = is_head b x
 is_head b (prefer kinds x) = false
 is_head b (starting test x) = false
-is_head b (on test x y) = false
+is_head b (on test x y z) = false
 
 -- It begins with that, and a kind of `stop` comes behind it.
 unfoldable pub before_stop : {A : Type 0} → (heads : ℕ → List ℕ) → Forks → List ℕ → Grammar A → Bool
@@ -141,7 +142,7 @@ before_stop heads b stop (many more x) = false
 before_stop heads b stop (named name x) = before_stop heads b stop x
 before_stop heads b stop (prefer kinds x) = false
 before_stop heads b stop (starting test x) = before_stop heads b stop x
-before_stop heads b stop (on test x y) = before_stop heads b stop x
+before_stop heads b stop (on test x y z) = before_stop heads b stop x
 
 -- each fork
 unfoldable pub told : {A : Type 0} → (heads : ℕ → List ℕ) → Forks → Grammar A → Bool
@@ -156,7 +157,7 @@ told heads b (many more x) = told heads b x
 told heads b (named name x) = told heads b x
 told heads b (prefer kinds x) = told heads b x
 told heads b (starting test x) = told heads b x
-told heads b (on test x y) = and (told heads b x) (told heads b y)
+told heads b (on test x y z) = and (told heads b x) (and (told heads b y) (told heads b z))
 
 -- what is tested of each rule
 abbrev pub paired : {A : Type 0} → (heads : ℕ → List ℕ) → Forks → Grammar A → Bool

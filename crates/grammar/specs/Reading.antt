@@ -28,7 +28,7 @@ nullable (many more x) = true
 nullable (named name x) = nullable x
 nullable (prefer kinds x) = true
 nullable (starting test x) = nullable x
-nullable (on test x y) = nullable x
+nullable (on test x y z) = nullable x
 
 -- The kinds that it may begin with; `heads` tells them of rules.
 unfoldable pub firsts : {A : Type 0} → (ℕ → List ℕ) → Grammar A → List ℕ
@@ -43,7 +43,7 @@ firsts heads (many more x) = firsts heads x
 firsts heads (named name x) = firsts heads x
 firsts heads (prefer kinds x) = firsts heads x
 firsts heads (starting test x) = kept test (firsts heads x)
-firsts heads (on test x y) = firsts heads x ++ (if nullable x then firsts heads y else [])
+firsts heads (on test x y z) = firsts heads x ++ (if nullable x then firsts heads y ++ firsts heads z else [])
 
 abbrev pub further : {A : Type 0} → List A → List A → List A
 further e f = if nat_le (length e) (length f) then e else f
@@ -61,6 +61,10 @@ furthest (Err e) (Err f) = Err (later e f)
 -- it where asked for, else nothing
 abbrev pub perhaps : {A : Type 0} → Bool → (List A → Answer A) → List A → Answer A
 perhaps b read ts = if b then read ts else Ok (tip, ts)
+
+-- the one where the test passes, else the other
+abbrev pub choose : {A : Type 0} → Bool → (List A → Answer A) → (List A → Answer A) → List A → Answer A
+choose b read other ts = if b then read ts else other ts
 
 module _ {A : Type 0} (l : Language A) where
   abbrev pub token_at : List ℕ → List A → Answer A
@@ -91,8 +95,8 @@ module _ {A : Type 0} (l : Language A) where
   read_at limit read (named name x) ts = read_at limit read x ts >>= λ p. Ok (node name p.0, p.1)
   read_at limit read (prefer kinds x) ts = perhaps (starts l (among kinds) ts) (read_at limit read x) ts
   read_at limit read (starting test x) ts = if starts l test ts then read_at limit read x ts else Err (false, ts)
-  read_at limit read (on test x y) ts =
-      read_at limit read x ts >>= λ p. perhaps (test p.0) (read_at limit read y) p.1 >>= λ q. Ok (pair p.0 q.0, q.1)
+  read_at limit read (on test x y z) ts =
+      read_at limit read x ts >>= λ p. choose (test p.0) (read_at limit read y) (read_at limit read z) p.1 >>= λ q. Ok (pair p.0 q.0, q.1)
 
   -- A rule, where its calls nest fewer than so many deep. Nesting too deep is a fault at the token that would begin it.
   unfoldable pub read : ℕ → ℕ → ℕ → List A → Answer A

@@ -17,7 +17,7 @@ goes_on heads tails (many more x) = firsts heads x ++ goes_on heads tails x
 goes_on heads tails (named name x) = goes_on heads tails x
 goes_on heads tails (prefer kinds x) = goes_on heads tails x
 goes_on heads tails (starting test x) = goes_on heads tails x
-goes_on heads tails (on test x y) = goes_on heads tails y ++ goes_on heads tails x
+goes_on heads tails (on test x y z) = (goes_on heads tails y ++ goes_on heads tails z) ++ goes_on heads tails x
 
 -- The next token always tells what to do, but at a fork.
 unfoldable pub decided : {A : Type 0} → (heads tails : ℕ → List ℕ) → Grammar A → Bool
@@ -33,7 +33,8 @@ decided heads tails (many more x) = and (not (nullable x)) (and (apart (goes_on 
 decided heads tails (named name x) = decided heads tails x
 decided heads tails (prefer kinds x) = and (not (nullable x)) (and (covers kinds (firsts heads x)) (decided heads tails x))
 decided heads tails (starting test x) = and (not (nullable x)) (decided heads tails x)
-decided heads tails (on test x y) = and (apart (goes_on heads tails x) (firsts heads y)) (and (decided heads tails x) (decided heads tails y))
+decided heads tails (on test x y z) =
+    and (apart (goes_on heads tails x) (firsts heads y ++ firsts heads z)) (and (decided heads tails x) (and (decided heads tails y) (decided heads tails z)))
 
 -- what is tested of each rule
 abbrev pub fits : {A : Type 0} → (heads tails : ℕ → List ℕ) → ℕ → Grammar A → Bool
@@ -53,7 +54,7 @@ InPlace rules (many more x) = InPlace rules x
 InPlace rules (named name x) = InPlace rules x
 InPlace rules (prefer kinds x) = InPlace rules x
 InPlace rules (starting test x) = InPlace rules x
-InPlace rules (on test x y) = InPlace rules x × InPlace rules y
+InPlace rules (on test x y z) = InPlace rules x × InPlace rules y × InPlace rules z
 
 -- Every rule passes, where `tails` are the kinds that may go on each once it is complete.
 abbrev pub Fits : {A : Type 0} → Language A → (tails : ℕ → List ℕ) → Type 0
@@ -81,7 +82,7 @@ Apart l limit r (many more x) = Apart l limit r x
 Apart l limit r (named name x) = Apart l limit r x
 Apart l limit r (prefer kinds x) = Apart l limit r x
 Apart l limit r (starting test x) = Apart l limit r x
-Apart l limit r (on test x y) = Apart l limit r x × Apart l limit r y
+Apart l limit r (on test x y z) = Apart l limit r x × Apart l limit r y × Apart l limit r z
 
 -- At each fork of each rule no front is read both ways.
 abbrev pub AllApart : {A : Type 0} → Language A → ℕ → Type 0
@@ -110,7 +111,7 @@ bars e (many more x) = bars e x
 bars e (named name x) = bars e x
 bars e (prefer kinds x) = kinds ++ bars e x
 bars e (starting test x) = bars e x
-bars e (on test x y) = bars e y ++ bars e x
+bars e (on test x y z) = (bars e y ++ bars e z) ++ bars e x
 
 abbrev pub first_of : List ℕ → List ℕ
 first_of [] = []
@@ -129,7 +130,7 @@ word e (many more x) = []
 word e (named name x) = word e x
 word e (prefer kinds x) = []
 word e (starting test x) = word e x
-word e (on test x y) = word e x
+word e (on test x y z) = word e x
 
 -- how deep the calls of the example nest
 unfoldable pub steep : {A : Type 0} → Examples → Grammar A → ℕ
@@ -144,7 +145,7 @@ steep e (many more x) = 0
 steep e (named name x) = steep e x
 steep e (prefer kinds x) = 0
 steep e (starting test x) = steep e x
-steep e (on test x y) = steep e x
+steep e (on test x y z) = steep e x
 
 abbrev pub first_passes : (ℕ → Bool) → List ℕ → Bool
 first_passes test [] = false
@@ -164,7 +165,7 @@ clear heads e (many more x) = and (apart (bars e x) (firsts heads x)) (clear hea
 clear heads e (named name x) = clear heads e x
 clear heads e (prefer kinds x) = clear heads e x
 clear heads e (starting test x) = and (not (nullable x)) (and (first_passes test (word e x)) (clear heads e x))
-clear heads e (on test x y) = and (nullable y) (and (clear heads e x) (clear heads e y))
+clear heads e (on test x y z) = and (and (nullable y) (nullable z)) (and (clear heads e x) (and (clear heads e y) (clear heads e z)))
 
 abbrev pub open_ended : {A : Type 0} → (heads : ℕ → List ℕ) → Examples → ℕ → Grammar A → Bool
 open_ended heads e name x =
