@@ -8,5 +8,6 @@ pub mod Deeper
 pub mod Limits
 pub mod Pairs
 pub mod Lists
+pub mod Fronts
 pub mod Steps
 pub mod Sample
