@@ -1,5 +1,5 @@
 -- Steps of placing a value.
-use Rattle.std.proofs.Common.{◌≡◌, ℕ, zero, suc, ◌+◌, ◌<◌, ◌≤◌, ◌≢◌, Bool, true, false, nat_lt, nat_le, eqb, List, [], ◌∷◌, ◌++◌, length, slice_set, Option, Some, None, option_map, option_and_then, Result, Ok, Err, refl, sym, ap, ◌∙◌, subst, append_assoc, append-nil, length-append, add-one, arith}
+use Rattle.std.proofs.Common.{◌≡◌, ℕ, zero, suc, ◌+◌, ◌<◌, ◌≤◌, ◌≢◌, true, false, nat_lt, eqb, List, [], ◌∷◌, ◌++◌, length, slice_set, Option, Some, None, option_map, option_and_then, Result, Ok, Err, refl, sym, ap, ◌∙◌, subst, append_assoc, append-nil, length-append, add-one, arith}
 use Rattle.std.proofs.lemmas.Bool.Decides.{nat_tests}
 use Rattle.std.proofs.lemmas.Bool.{ne_eqb}
 use borrow.Author.Tests.{eq-eqb}
@@ -7,7 +7,6 @@ use Rattle.serde_json.specs.Data.{Data, Items, no_items, item, Members, no_membe
 use Rattle.parcel.specs.declared.parcel.Item.{Item}
 use Rattle.parcel.specs.declared.parcel.Item.TheVariants.{Node}
 use Rattle.parcel.specs.declared.parcel.PNode.{PNode}
-use Rattle.parcel.specs.declared.parcel.PNode.TheVariants.{Port}
 use Rattle.wire_input.specs.Input.{Placed, placed_with, node_placed, named, member_placed, class_of, classes_placed, value_placed, items_placed, class_placed, text_of}
 use Rattle.wire_input.specs.Answer.{Places, TextAnswers}
 use Rattle.wire_input.specs.declared.InputFault.{InputFault}

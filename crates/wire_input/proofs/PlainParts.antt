@@ -1,5 +1,5 @@
 -- A JSON value gives no functions, promises and ports.
-use Rattle.std.proofs.Common.{◌≡◌, ℕ, zero, suc, ◌+◌, ◌&&◌, nat_lt, eqb, List, [], ◌∷◌, ◌++◌, length, map, Bool as Boolean, true, false, if◌then◌else◌, Option, Some, None, option_map, option_and_then, ℤ, refl, sym, ap, ◌∙◌, subst}
+use Rattle.std.proofs.Common.{◌≡◌, ℕ, zero, suc, ◌+◌, nat_lt, eqb, List, [], ◌∷◌, ◌++◌, length, map, Bool as Boolean, true, false, if◌then◌else◌, Option, Some, None, option_map, option_and_then, refl, ap, ◌∙◌, subst}
 use Rattle.std.specs.List.{list_all}
 use Rattle.std.proofs.lemmas.List.Folds.{list_all-append}
 use Rattle.serde_json.specs.Data.{Num, Data, null, boolean, number, string, array, object, Items, no_items, item, Members, no_members, member}
@@ -9,8 +9,7 @@ use Rattle.parcel.specs.declared.parcel.Item.{Item}
 use Rattle.parcel.specs.declared.parcel.Item.TheVariants.{Null, Bool, Num as Whole, Str, Node}
 use Rattle.parcel.specs.declared.parcel.PNode.{PNode}
 use Rattle.parcel.specs.declared.parcel.PNode.TheVariants.{Object, Array}
-use Rattle.parcel.specs.declared.parcel.Parcel.{Parcel}
-use Rattle.wire_input.specs.Input.{Placed, placed_with, node_placed, named, text_of, class_of, classes_placed, value_placed, items_placed, class_placed}
+use Rattle.wire_input.specs.Input.{Placed, placed_with, named, text_of, class_of, classes_placed, value_placed, items_placed, class_placed}
 
 -- no function, promise or port in the nodes
 pub record Fine (ns : List PNode) : Type 0 where

@@ -146,52 +146,74 @@ fn repeated(
     Ok(text)
 }
 
-// Why a text that was made gives no parcel.
-fn fault_of(alloc: Global, text: Result<Vec<u8>, AllocError>) -> Option<InputFault> {
-    let Ok(text) = text else {
-        return Some(InputFault::Memory);
-    };
-    parcel_of_json(alloc, text.as_slice()).err()
+// A JSON text with a part that is repeated, and why it gives no parcel.
+struct LongRow {
+    front: &'static [u8],
+    middle: &'static [u8],
+    count: usize,
+    back: &'static [u8],
+    fault: Option<InputFault>,
 }
+
+const LONG_ROWS: [LongRow; 7] = [
+    LongRow {
+        front: b"[",
+        middle: b"[],",
+        count: 99_998,
+        back: b"[]]",
+        fault: None,
+    },
+    LongRow {
+        front: b"[",
+        middle: b"[],",
+        count: 99_999,
+        back: b"[]]",
+        fault: Some(InputFault::Shape),
+    },
+    LongRow {
+        front: b"\"",
+        middle: b"a",
+        count: 1_048_576,
+        back: b"\"",
+        fault: None,
+    },
+    LongRow {
+        front: b"\"",
+        middle: b"a",
+        count: 1_048_577,
+        back: b"\"",
+        fault: Some(InputFault::Shape),
+    },
+    LongRow {
+        front: b"{\"",
+        middle: b"a",
+        count: 1_048_577,
+        back: b"\":0}",
+        fault: Some(InputFault::Shape),
+    },
+    LongRow {
+        front: b"",
+        middle: b"[",
+        count: 128,
+        back: b"",
+        fault: Some(InputFault::Json),
+    },
+    LongRow {
+        front: b"\"",
+        middle: &[255],
+        count: 1,
+        back: b"\"",
+        fault: Some(InputFault::Json),
+    },
+];
 
 #[test]
 fn limits_are_met_and_missed(rt: HostRuntime) {
-    let alloc = rt.alloc();
-    let shape = Some(InputFault::Shape);
-    assert_eq!(rt;
-        fault_of(alloc, repeated(alloc, b"[", b"[],", 99_998, b"[]]")),
-        None
-    );
-    assert_eq!(rt;
-        fault_of(alloc, repeated(alloc, b"[", b"[],", 99_999, b"[]]")),
-        shape
-    );
-    assert_eq!(rt;
-        fault_of(alloc, repeated(alloc, b"[", b"0,", 999_998, b"0]")),
-        None
-    );
-    assert_eq!(rt;
-        fault_of(alloc, repeated(alloc, b"[", b"0,", 999_999, b"0]")),
-        shape
-    );
-    assert_eq!(rt;
-        fault_of(alloc, repeated(alloc, b"\"", b"a", 1_048_576, b"\"")),
-        None
-    );
-    assert_eq!(rt;
-        fault_of(alloc, repeated(alloc, b"\"", b"a", 1_048_577, b"\"")),
-        shape
-    );
-    assert_eq!(rt;
-        fault_of(alloc, repeated(alloc, b"{\"", b"a", 1_048_577, b"\":0}")),
-        shape
-    );
-    assert_eq!(rt;
-        fault_of(alloc, repeated(alloc, b"", b"[", 128, b"")),
-        Some(InputFault::Json)
-    );
-    assert_eq!(rt;
-        fault_of(alloc, repeated(alloc, b"\"", &[255], 1, b"\"")),
-        Some(InputFault::Json)
-    );
+    for (number, row) in LONG_ROWS.iter().enumerate() {
+        let text = repeated(rt.alloc(), row.front, row.middle, row.count, row.back).expect(
+            &rt, "memory",
+        );
+        let fault = parcel_of_json(rt.alloc(), text.as_slice()).err();
+        assert_eq!(rt; fault, row.fault, "fault of long row {number}");
+    }
 }

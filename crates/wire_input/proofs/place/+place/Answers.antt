@@ -1,13 +1,13 @@
-use Rattle.std.proofs.Common.{◌≡◌, ℕ, ◌+◌, ◌<◌, ◌++◌, [], ◌∷◌, length, drop, Some, None, Ok, Err, refl, sym, ap, ◌∙◌, subst, append-nil, append_assoc, string_bytes, arith, rules}
+use Rattle.std.proofs.Common.{◌≡◌, ◌+◌, ◌++◌, [], ◌∷◌, length, drop, refl, sym, ap, ◌∙◌, string_bytes, arith, rules}
 use Rattle.std.proofs.lemmas.List.{drop_more, drop_all}
-use Rattle.serde_json.specs.Data.{null, boolean, number, string, array, object}
+use Rattle.serde_json.specs.Data.{null, boolean, number, string}
 use Rattle.serde_json.specs.View.{view, number_view, items_view, members_view}
 use Rattle.serde_json.specs.declared.value.Value.{the_lemmas}
 use Rattle.serde_json.proofs.Views.{view-Array, view-Object}
-use Rattle.parcel.specs.declared.parcel.Item.TheVariants.{Null, Bool, Num as Whole, Str}
+use Rattle.parcel.specs.declared.parcel.Item.TheVariants.{Null, Bool, Str}
 use Rattle.parcel.specs.declared.parcel.PNode.TheVariants.{Object, Array}
-use Rattle.wire_input.specs.Input.{class_of, value_placed, items_placed, class_placed, classes_placed, node_placed, member_placed}
-use Rattle.wire_input.proofs.Placing.{with_front, fault-along, text-fault, leaf, along, node-told, node-fault, node-full, behind, items-turn, items-fault, items-end, start, class-skip, class-turn, class-fault, class-end, classes-turn, classes-fault, classes-end, member-told, member-fault, key-fault}
+use Rattle.wire_input.specs.Input.{class_of, value_placed, items_placed, class_placed, classes_placed, member_placed}
+use Rattle.wire_input.proofs.Placing.{with_front, fault-along, text-fault, leaf, along, node-told, behind, items-turn, items-fault, items-end, start, class-skip, class-turn, class-fault, class-end, classes-turn, classes-fault, classes-end}
 use Rattle.wire_input.proofs.place.+place.Goals as goal
 
 pub place-returns-in-Null : goal.place-returns-in-Null
