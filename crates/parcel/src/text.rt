@@ -2,6 +2,8 @@
 ghost use Rattle.std.specs.Prelude.{◌≡◌, [], ◌++◌, codes, slice_get, IfOk, OnOk};
 ghost use Rattle.std.specs.Fmt.{decimal};
 ghost use Rattle.wl_text.specs.Text.{quoted};
+ghost use Rattle.parcel.specs.declared.parcel.Parcel.{Parcel};
+ghost use Rattle.parcel.specs.Checked.{IsChecked};
 ghost use Rattle.parcel.specs.Text.{Writes, list_shown, kind_name, item_name, property_shown, entry_shown, message_shown, bytes_shown, buffer_shown, view_shown, node_shown, first_shown, rest_shown, item_shown, text_of};
 
 use crate::parcel::{ErrorKind, Item, Mem, PNode, Parcel, Side};
@@ -34,6 +36,11 @@ pub fn show(alloc: Global, parcel: &Parcel) -> Mem<Vec<u8>>
     )?;
     Ok(out)
 }
+
+/// A law: two checked parcels that are shown alike are the same parcel.
+pub fn show_is_injective()
+    ensures { (a b : Parcel) → IsChecked a → IsChecked b → text_of a ≡ text_of b → a ≡ b }
+{}
 
 // An item, where the next node takes the number `next` and so many levels are left. Answers the next number behind it.
 #[cycle(text)]
