@@ -1,0 +1,9 @@
+pub mod Table
+pub mod Maps
+pub mod Shelf
+pub mod Stored
+pub mod Over
+pub mod Heaps
+pub mod Views
+pub mod Bounded
+pub mod Growth

@@ -1,0 +1,18 @@
+//! The cells of the worlds: values, properties, cells and limits.
+#![tactic(auto)]
+
+mod cell;
+mod heap;
+mod limits;
+mod pool;
+mod size;
+mod store;
+mod table;
+mod value;
+
+pub use cell::{Binding, Body, Cell, MapEntry, PromiseState, Reaction};
+pub use pool::{Pool, Seat};
+pub use heap::Heap;
+pub use limits::{Counts, Full, HeapFault, Limits, WorldKind};
+pub use table::Table;
+pub use value::{Loc, Property, Value};
