@@ -4,3 +4,4 @@ pub mod Storing
 pub mod Wells
 pub mod Pooling
 pub mod Counting
+pub mod Begun

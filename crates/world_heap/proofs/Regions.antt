@@ -48,6 +48,14 @@ at_stands (r ∷ rs) o n s h =
 pub at_found : (rs : List Region) (o : ℕ) → Stands (owners rs) o → position (λ (r : Region). nat_eq r.owner o) rs ≡ None → ⊥
 at_found rs o s h = at_stands rs o 0 s (sym (position_from-zero (λ (r : Region). nat_eq r.owner o) rs) ∙ h)
 
+-- where there is none, the owner doesn't stand
+pub at_absent : (rs : List Region) (o : ℕ) → position (λ (r : Region). nat_eq r.owner o) rs ≡ None → stands nat_eq (owners rs) o ≡ false
+at_absent rs o h =
+    elim (stands nat_eq (owners rs) o) as (λ b. stands nat_eq (owners rs) o ≡ b → b ≡ false) [
+      | true ↦ λ s. absurd (at_found rs o s h)
+      | false ↦ λ _. refl
+    ] refl
+
 pub owners-set : (rs : List Region) (o at : ℕ) (n : Region) → IsAt rs o at → n.owner ≡ o → owners (set rs at n) ≡ owners rs
 owners-set [] o at n h e = absurd h
 owners-set (r ∷ rs) o zero n h e = ap (λ k. k ∷ owners rs) (e ∙ sym h)
@@ -222,6 +230,12 @@ module _ {T : Type 0} where
         subst (λ ks. stands nat_eq ks l ≡ false) (sym (keys-gathered slots r.own (own_filled slots r rs f))) (times_absent r.own l (omega (arith, split, h))),
         apart_all slots rs l (rest_filled slots r rs f) (omega (arith, split, h)),
       )
+
+  -- the slots of one region are filled
+  pub at_filled : (slots : List (Option T)) (rs : List Region) (o at : ℕ) (d : Region) → AllFilled slots rs → IsAt rs o at → AreFilled slots (get_or rs at d).own
+  at_filled slots [] o at d f h = absurd h
+  at_filled slots (r ∷ rs) o zero d f h = own_filled slots r rs f
+  at_filled slots (r ∷ rs) o (suc at) d f h = at_filled slots rs o at d (rest_filled slots r rs f) h.1
 
   -- the number of all values
   pub sum-maps : (slots : List (Option T)) (rs : List Region) → AllFilled slots rs → sum_by (λ (m : ℕ × List (ℕ × T)). length m.1) (maps slots rs) ≡ length (all_own rs)

@@ -7,8 +7,9 @@ use Rattle.world_heap.specs.declared.store.Region.{Region}
 use Rattle.world_heap.specs.Maps.{keys, find, put, without, stands, Stands}
 use Rattle.world_heap.specs.Shelf.{values_of, IsAmong, Apart}
 use Rattle.world_heap.specs.Stored.{times, all_own, owners, maps, gathered, IsAt, IsDistinct, IsHeld, IsStored}
-use Rattle.world_heap.proofs.Slots.{IsMore, times-append, held_put, held_take, held_write, held_room, held_filled, held_bound, held_vacant, gathered-push, gathered-set}
-use Rattle.world_heap.proofs.Regions.{at_owner, at_within, owners-set, distinct-remove, times-set, length-set_own, times-remove, length-remove_own, own_among, keys-maps, find-maps, maps-set, maps-remove, maps-slot, maps-more, stored_filled, among_at, find-among, maps-write, apart_all}
+use Rattle.world_heap.proofs.Slots.{IsMore, times-append, held_put, held_take, held_write, held_room, held_filled, held_bound, held_vacant, gathered-push, gathered-set, keys-gathered}
+use Rattle.world_heap.proofs.Regions.{at_owner, at_within, owners-set, distinct-remove, times-set, length-set_own, times-remove, length-remove_own, own_among, keys-maps, find-maps, maps-set, maps-remove, maps-slot, maps-more, stored_filled, among_at, find-among, maps-write, apart_all, at_filled}
+use Rattle.world_heap.proofs.Wells.{absent_found}
 
 none : Region
 none = record { owner = 0; own = [] }
@@ -16,6 +17,14 @@ none = record { owner = 0; own = [] }
 module _ {T : Type 0} (slots : List (Option T)) (rs : List Region) where
   values_is : (o at : ℕ) (d : Region) → IsAt rs o at → values_of (maps slots rs) o ≡ gathered slots (get_or rs at d).own
   values_is o at d h = ap (λ x. unwrap_or x []) (find-maps slots rs o at d h)
+
+  -- the locations of an owner's values
+  pub keys_is : IsStored slots rs → (o at : ℕ) (d : Region) → IsAt rs o at → keys (values_of (maps slots rs) o) ≡ (get_or rs at d).own
+  keys_is s o at d h = ap keys (values_is o at d h) ∙ keys-gathered slots (get_or rs at d).own (at_filled slots rs o at d (stored_filled slots rs s) h)
+
+  -- an owner that doesn't stand has no values
+  pub none_is : (o : ℕ) → stands nat_eq (owners rs) o ≡ false → values_of (maps slots rs) o ≡ []
+  none_is o h = ap (λ x. unwrap_or x []) (absent_found (maps slots rs) o (ap (λ ks. stands nat_eq ks o) (keys-maps slots rs) ∙ h))
 
   pub among_filled : IsStored slots rs → (o l : ℕ) → IsAmong (maps slots rs) o l → IsFilled slots l
   among_filled s o l m =

@@ -7,3 +7,5 @@ pub mod Heaps
 pub mod Views
 pub mod Bounded
 pub mod Growth
+pub mod BuiltIns
+pub mod Starting

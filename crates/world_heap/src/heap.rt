@@ -1,18 +1,26 @@
 //! The heap of a world, over a pool.
-ghost use Rattle.std.specs.Prelude.{◌≡◌, ◌+◌, ◌<◌, ◌≤◌, Some, None, length, nat_eq};
+ghost use Rattle.std.specs.Prelude.{◌≡◌, ℕ, ◌+◌, ◌-◌, ◌^◌, ◌<◌, ◌≤◌, ◌∷◌, [], List, Some, None, OnOk, IfOk, length, slice_get, nat_eq};
 ghost use Rattle.world_heap.specs.Maps.{keys, find, put, without, Stands};
 ghost use Rattle.world_heap.specs.Shelf.{values_of};
-ghost use Rattle.world_heap.specs.Heaps.{IsCell, Fits, IsWell};
+ghost use Rattle.world_heap.specs.Over.{OptionOver};
+ghost use Rattle.world_heap.specs.Heaps.{IsNoEnv, IsCell, Fits, IsWell};
+ghost use Rattle.world_heap.specs.BuiltIns.{plain_object, objects, place_of};
 ghost use Rattle.world_heap.specs.Views.{IsOwned};
 ghost use Rattle.world_heap.specs.Growth.{Adds, Grows};
+ghost use Rattle.world_heap.specs.Bounded.{bounds_of};
+ghost use Rattle.world_heap.specs.Starting.{IsNew, empty_heap, with_built_in};
 
-use crate::cell::Cell;
+use crate::builtin::{BuiltIn, place_number};
+use crate::cell::{Body, Cell};
 use crate::limits::{Counts, Full, HeapFault, Limits};
 use crate::pool::{Pool, Seat};
 use crate::size::{place_count, unit_count};
 use crate::store::{Store, discard};
+use crate::table::Table;
 use crate::value::Loc;
+use std::alloc::{AllocError, Global};
 use std::marker::Model;
+use world_kind::WorldKind;
 
 /// The heap of a world, seen as the list of its cells in the order in which they were made, each with its location,
 /// beside the heaps of the others in its pool, its counts and limits.
@@ -54,6 +62,92 @@ impl Model for Heap {
 }
 
 impl Heap {
+    /// A new heap in the pool, under the next unused owner number. It has the built-in cells alone, and its counts are
+    /// 0. Where memory runs out the pool is gone.
+    ///
+    /// Fewer than 2^32-1 owner numbers were given out, and at most 31 heaps stand in the pool. So far the built-in
+    /// cells are the same for all kinds of world.
+    pub fn new(
+        alloc: Global,
+        limits: Limits,
+        _kind: WorldKind,
+        pool: Pool,
+    ) -> Result<Heap, AllocError>
+        requires given { pool.given < 2 ^ 32 - 1 }
+        requires room { length pool.maps ≤ 31 }
+        ensures { IfOk result (λ heap. IsNew (bounds_of limits) pool heap) }
+    {
+        let mut heap = Heap::empty(alloc, limits, pool)?;
+        let root = heap.add_object(alloc, None)?;
+        let error = heap.add_object(alloc, Some(root))?;
+        heap.add_objects(alloc, error, 6)?;
+        heap.add_objects(alloc, root, 9)?;
+        Ok(heap)
+    }
+
+    // A heap without cells in the pool.
+    fn empty(alloc: Global, limits: Limits, pool: Pool) -> Result<Heap, AllocError>
+        requires { pool.given < 2 ^ 32 - 1 }
+        ensures { IfOk result (λ heap. heap ≡ empty_heap (bounds_of limits) pool) }
+    {
+        let Pool { mut store, given } = pool;
+        store.open(alloc, given)?;
+        Ok(Heap {
+            store,
+            given: given + 1,
+            owner: given,
+            limits,
+            counts: Counts {
+                cells: 0,
+                places: 0,
+                units: 0,
+            },
+            base: 0,
+        })
+    }
+
+    // One built-in object more.
+    fn add_object(&mut self, alloc: Global, proto: Option<Loc>) -> Result<Loc, AllocError>
+        requires room { self.old.base < 1024 }
+        requires proto { OptionOver (IsNoEnv nat_eq self.old.cells) proto }
+        ensures added { IfOk result (λ loc. self.new ≡ with_built_in self.old ((loc, plain_object proto) ∷ [])) }
+        ensures stands { IfOk result (λ loc. IsNoEnv nat_eq self.new.cells loc) }
+        ensures kept { (loc : ℕ) → IsNoEnv nat_eq self.old.cells loc → IsNoEnv nat_eq self.new.cells loc }
+    {
+        let cell = Cell::Object {
+            body: Body {
+                proto,
+                properties: Table::new(alloc),
+                extensible: true,
+            },
+        };
+        let number = self.store.add(self.owner, cell)?;
+        self.base += 1;
+        Ok(Loc::of(number))
+    }
+
+    // So many built-in objects more, with one prototype.
+    fn add_objects(&mut self, alloc: Global, proto: Loc, count: u64) -> Result<(), AllocError>
+        requires room { self.old.base + count ≤ 1024 }
+        requires proto { IsNoEnv nat_eq self.old.cells proto }
+        ensures added { OnOk result ((locs : List ℕ) × (length locs ≡ count) × (self.new ≡ with_built_in self.old (objects proto locs))) }
+        ensures kept { (loc : ℕ) → IsNoEnv nat_eq self.old.cells loc → IsNoEnv nat_eq self.new.cells loc }
+    {
+        'objects: for _done in 0..count {
+            self.add_object(alloc, Some(proto))?;
+        }
+        Ok(())
+    }
+
+    /// The location of a built-in cell. It takes no memory.
+    pub fn built_in(&self, built_in: BuiltIn) -> Option<Loc>
+        ensures { result ≡ slice_get (keys self.now.cells) (place_of built_in) }
+    {
+        self.store
+            .location(self.owner, place_number(built_in))
+            .map(Loc::of)
+    }
+
     /// Adds a cell, and counts it and its places and units.
     ///
     /// The cell's locations stand. Where a count would pass its limit that is told, of cells, places and units the

@@ -1,6 +1,7 @@
 //! The cells of the worlds: values, properties, cells and limits.
 #![tactic(auto)]
 
+mod builtin;
 mod cell;
 mod heap;
 mod limits;
@@ -10,9 +11,11 @@ mod store;
 mod table;
 mod value;
 
+pub use builtin::BuiltIn;
 pub use cell::{Binding, Body, Cell, MapEntry, PromiseState, Reaction};
 pub use pool::{Pool, Seat};
 pub use heap::Heap;
-pub use limits::{Counts, Full, HeapFault, Limits, WorldKind};
+pub use limits::{Counts, Full, HeapFault, Limits};
 pub use table::Table;
 pub use value::{Loc, Property, Value};
+pub use world_kind::WorldKind;

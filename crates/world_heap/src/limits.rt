@@ -3,14 +3,6 @@ ghost use Rattle.std.specs.Prelude.{◌≡◌, ◌≤◌};
 
 use std::alloc::{AllocError, AllocFailed};
 
-/// The kinds of world: the main process, the preload script of a window, and its page.
-#[derive(Debug, Drop, Clone, Copy, PartialEq, Eq, Hash)]
-pub enum WorldKind {
-    Main,
-    Preload,
-    Page,
-}
-
 /// The greatest numbers of steps of a task, of cells, places and units of a world, and of its active calls. Each is
 /// from 1 to its default.
 #[derive(Debug, Drop, Clone, Copy, PartialEq, Eq)]

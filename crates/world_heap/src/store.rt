@@ -1,5 +1,5 @@
 //! Values of several owners in one store of slots, each owner's in the order in which they came.
-ghost use Rattle.std.specs.Prelude.{◌≡◌, ℕ, ◌+◌, ◌<◌, ◌≤◌, ◌++◌, [], ◌∷◌, Some, None, false, length, replicate, position, ◌==◌, sum_by, nat_eq, OnOk, OnErr, IfOk};
+ghost use Rattle.std.specs.Prelude.{◌≡◌, ℕ, ◌+◌, ◌<◌, ◌≤◌, ◌++◌, [], ◌∷◌, Some, None, false, length, replicate, position, slice_get, ◌==◌, sum_by, nat_eq, OnOk, OnErr, IfOk};
 ghost use Rattle.cell_chunks.specs.Slots.{vacancies};
 ghost use Rattle.world_heap.specs.Maps.{keys, find, put, without, stands, Stands};
 ghost use Rattle.world_heap.specs.Shelf.{values_of, IsAmong, Apart};
@@ -143,6 +143,16 @@ impl<T: Drop> Store<T> {
         ensures { result ≡ sum_by (λ m. length m.1) self.now }
     {
         self.chunks.len() - self.chunks.vacant()
+    }
+
+    /// The location of one of an owner's values, by its place among them.
+    pub fn location(&self, owner: u32, at: usize) -> Option<u32>
+        ensures { result ≡ slice_get (keys (values_of self.now owner)) at }
+    {
+        match region_place(self.regions.as_slice(), owner) {
+            Some(place) => self.regions[place].own.get(at).copied(),
+            None => None,
+        }
     }
 
     /// Takes an owner away with all its values. The cost is linear in these.
