@@ -1,11 +1,10 @@
 -- The cells that a heap begins with.
-use Rattle.std.proofs.Common.{◌≡◌, ℕ, suc, ◌+◌, ◌<◌, ◌≤◌, true, false, List, [], ◌∷◌, ◌++◌, Some, None, Option, refl, sym, ap, ◌∙◌, subst, arith, nat_eq, if◌then◌else◌, length, length-append, append_assoc, unwrap_or, ◌≢◌}
+use Rattle.std.proofs.Common.{◌≡◌, ℕ, suc, ◌+◌, ◌<◌, true, false, List, [], ◌∷◌, ◌++◌, Some, refl, ap, ◌∙◌, arith, nat_eq, if◌then◌else◌, length, length-append, append_assoc}
 use Rattle.std.proofs.lemmas.Bool.Decides.{nat_tests}
 use Rattle.world_heap.specs.declared.cell.Cell.{Cell}
-use Rattle.world_heap.specs.Maps.{keys, find, put, without, stands, Stands}
-use Rattle.world_heap.specs.Shelf.{values_of}
+use Rattle.world_heap.specs.Maps.{keys, find, without, stands, Stands}
 use Rattle.world_heap.specs.Over.{ListOver}
-use Rattle.world_heap.specs.Heaps.{IsWell, IsCell}
+use Rattle.world_heap.specs.Heaps.{IsWell}
 use Rattle.world_heap.specs.Views.{HeapView, IsPooled}
 use Rattle.world_heap.specs.BuiltIns.{plain_object, objects}
 use Rattle.world_heap.specs.Starting.{with_built_in}

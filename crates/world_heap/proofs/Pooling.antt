@@ -1,5 +1,5 @@
 -- The heap of one owner among those of all.
-use Rattle.std.proofs.Common.{◌≡◌, ℕ, suc, ◌+◌, ◌<◌, ◌≤◌, true, false, List, [], ◌∷◌, ◌++◌, Some, None, Option, refl, sym, ap, ◌∙◌, subst, arith, nat_eq, if◌then◌else◌, length, unwrap_or}
+use Rattle.std.proofs.Common.{◌≡◌, ℕ, suc, ◌+◌, ◌<◌, true, false, List, [], ◌∷◌, Some, refl, sym, ap, ◌∙◌, subst, arith, nat_eq, if◌then◌else◌, length, unwrap_or}
 use Rattle.std.proofs.lemmas.Bool.Decides.{nat_tests}
 use Rattle.world_heap.specs.declared.cell.Cell.{Cell}
 use Rattle.world_heap.specs.declared.limits.Counts.{Counts}
@@ -38,6 +38,14 @@ module _ {T : Type 0} where
         | true ↦ a.1
         | false ↦ (a.0, apart_others maps o l a.1)
       ]
+
+  pub length-without : (maps : List (ℕ × List (ℕ × T))) (o : ℕ) → Stands (keys maps) o → length maps ≡ length (without nat_eq maps o) + 1
+  length-without [] o s = absurd (cc)
+  length-without (m ∷ maps) o s =
+      elim (nat_eq m.0 o) as (λ b. (if b then true else stands nat_eq (keys maps) o) ≡ true → suc (length maps) ≡ length (if b then maps else m ∷ without nat_eq maps o) + 1) [
+        | true ↦ λ _. omega arith
+        | false ↦ λ e. omega (arith, length-without maps o e)
+      ] s
 
   pub find_values : (maps : List (ℕ × List (ℕ × T))) (o : ℕ) → Stands (keys maps) o → find nat_eq maps o ≡ Some (values_of maps o)
   find_values maps o s =

@@ -1,15 +1,15 @@
 -- The regions of the owners, among the slots of all.
-use Rattle.std.proofs.Common.{◌≡◌, ◌≢◌, ℕ, zero, suc, ◌+◌, ◌<◌, ◌≤◌, Bool, true, false, List, [], ◌∷◌, ◌++◌, length, get_or, set, Some, None, Option, refl, sym, ap, ◌∙◌, subst, arith, replicate, remove, slice_get, position, nat_eq, if◌then◌else◌, length-append, cond, sum_by}
+use Rattle.std.proofs.Common.{◌≡◌, ℕ, zero, suc, ◌+◌, ◌<◌, true, false, List, [], ◌∷◌, ◌++◌, length, get_or, set, Some, None, Option, refl, sym, ap, ◌∙◌, subst, arith, replicate, remove, slice_get, position, nat_eq, if◌then◌else◌, length-append, cond, sum_by}
 use Rattle.std.proofs.lemmas.Bool.Decides.{nat_tests}
 use Rattle.std.proofs.lemmas.Iterator.Adapters.{position_from-zero}
 use Rattle.std.proofs.lemmas.List.Sums.{sum_by-cons}
 use Rattle.std.specs.List.{position_from}
-use Rattle.cell_chunks.specs.Slots.{vacancies, IsFilled}
+use Rattle.cell_chunks.specs.Slots.{IsFilled}
 use Rattle.world_heap.specs.declared.store.Region.{Region}
 use Rattle.world_heap.specs.Maps.{keys, find, put, without, stands, Stands}
-use Rattle.world_heap.specs.Shelf.{values_of, IsAmong, Apart}
-use Rattle.world_heap.specs.Stored.{times, all_own, owners, maps, gathered, IsAt, IsDistinct, IsHeld, IsStored}
-use Rattle.world_heap.proofs.Slots.{times-append, AreFilled, keys-gathered, find-gathered, put-gathered, gathered-set, gathered-more, gathered-push, are_filled, held_filled, held_bound, held_vacant, stands_times, times_absent}
+use Rattle.world_heap.specs.Shelf.{IsAmong, Apart}
+use Rattle.world_heap.specs.Stored.{times, all_own, owners, maps, gathered, IsAt, IsDistinct, IsStored}
+use Rattle.world_heap.proofs.Slots.{times-append, AreFilled, keys-gathered, find-gathered, put-gathered, gathered-set, gathered-more, are_filled, held_filled, stands_times, times_absent}
 
 pub at_within : (rs : List Region) (o at : ℕ) → IsAt rs o at → at < length rs
 at_within [] o at h = absurd h
@@ -91,6 +91,7 @@ distinct-push rs n = go rs
           | true ↦ λ q. q
           | false ↦ λ q. apart rs k q e
         ] h
+
     go : (rs : List Region) → IsDistinct (owners rs) → stands nat_eq (owners rs) n.owner ≡ false → IsDistinct (owners (rs ++ n ∷ []))
     go [] d s = (refl, tt)
     go (r ∷ rs) d s =

@@ -1,12 +1,12 @@
 -- Slots that are filled, written and vacated, among those of all owners.
-use Rattle.std.proofs.Common.{◌≡◌, ◌≢◌, ℕ, zero, suc, ◌+◌, ◌<◌, ◌≤◌, Bool, true, false, List, [], ◌∷◌, ◌++◌, length, get_or, set, Some, None, Option, refl, sym, ap, ◌∙◌, subst, arith, replicate, nat_eq, if◌then◌else◌, slice_get, length-append, length-set, cond, is_none}
+use Rattle.std.proofs.Common.{◌≡◌, ◌≢◌, ℕ, zero, suc, ◌+◌, ◌<◌, ◌≤◌, true, false, List, [], ◌∷◌, ◌++◌, length, get_or, set, Some, None, Option, refl, sym, ap, ◌∙◌, arith, replicate, nat_eq, if◌then◌else◌, slice_get, length-append, length-set, cond, is_none}
 use Rattle.std.proofs.lemmas.Bool.Decides.{nat_tests}
 use Rattle.std.proofs.lemmas.List.Sums.{sum_by-append}
 use Rattle.std.proofs.lemmas.List.Folds.{sum_by-replicate}
 use Rattle.std.proofs.lemmas.List.{get_or-set_same, get_or-set_other, length-replicate}
 use Rattle.std.proofs.lemmas.Option.{get_or_from_slice_get, slice_get_within}
 use Rattle.cell_chunks.specs.Slots.{vacancies, IsFilled}
-use Rattle.cell_chunks.proofs.Stacks.{vacancies-fill, vacancies-vacate, vacancies-write, vacancies-push}
+use Rattle.cell_chunks.proofs.Stacks.{vacancies-fill, vacancies-vacate, vacancies-write}
 use Rattle.world_heap.specs.Maps.{keys, find, put, stands, Stands}
 use Rattle.world_heap.specs.Stored.{times, size_of, filled_at, with_value, gathered, IsHeld}
 

@@ -1,14 +1,14 @@
 -- What each call of a store does to its slots and regions.
-use Rattle.std.proofs.Common.{◌≡◌, ℕ, zero, suc, ◌+◌, ◌-◌, ◌<◌, ◌≤◌, true, false, List, [], ◌∷◌, ◌++◌, length, get_or, set, Some, None, Option, refl, sym, ap, ◌∙◌, subst, arith, replicate, remove, slice_get, nat_eq, if◌then◌else◌, length-append, unwrap_or}
+use Rattle.std.proofs.Common.{◌≡◌, ℕ, zero, suc, ◌+◌, ◌<◌, true, false, List, [], ◌∷◌, ◌++◌, length, get_or, set, Some, None, Option, refl, sym, ap, ◌∙◌, subst, arith, replicate, remove, slice_get, nat_eq, if◌then◌else◌, length-append, unwrap_or}
 use Rattle.std.proofs.lemmas.Bool.Decides.{nat_tests}
-use Rattle.cell_chunks.specs.Slots.{vacancies, IsFilled}
+use Rattle.cell_chunks.specs.Slots.{IsFilled}
 use Rattle.cell_chunks.proofs.Stacks.{slice_get_same}
 use Rattle.world_heap.specs.declared.store.Region.{Region}
-use Rattle.world_heap.specs.Maps.{keys, find, put, without, stands, Stands}
+use Rattle.world_heap.specs.Maps.{keys, find, put, stands}
 use Rattle.world_heap.specs.Shelf.{values_of, IsAmong, Apart}
 use Rattle.world_heap.specs.Stored.{times, all_own, owners, maps, gathered, IsAt, IsDistinct, IsHeld, IsStored}
-use Rattle.world_heap.proofs.Slots.{IsMore, times-append, held_put, held_take, held_write, held_room, held_filled, held_bound, held_vacant, gathered-push, gathered-set, keys-gathered}
-use Rattle.world_heap.proofs.Regions.{at_owner, at_within, owners-set, distinct-remove, times-set, length-set_own, times-remove, length-remove_own, own_among, keys-maps, find-maps, maps-set, maps-remove, maps-slot, maps-more, stored_filled, among_at, find-among, maps-write, apart_all, at_filled}
+use Rattle.world_heap.proofs.Slots.{times-append, held_put, held_take, held_write, held_room, held_filled, held_bound, held_vacant, gathered-push, gathered-set, keys-gathered}
+use Rattle.world_heap.proofs.Regions.{owners-set, times-set, length-set_own, times-remove, length-remove_own, own_among, keys-maps, find-maps, maps-set, maps-slot, stored_filled, among_at, find-among, maps-write, apart_all, at_filled}
 use Rattle.world_heap.proofs.Wells.{absent_found}
 
 none : Region
@@ -76,10 +76,10 @@ module _ {T : Type 0} (slots : List (Option T)) (rs : List Region) where
         let filled = slice_get_same slots l None (Some v) vacant in
         let own_nowhere : times l (get_or rs at d).own ≡ 0 = omega (arith, times-remove l rs o at d here, nowhere) in
         let new : gathered (set slots l (Some v)) n.own ≡ values_of (maps slots rs) o ++ (l, v) ∷ [] =
-            ap (gathered (set slots l (Some v))) own ∙ gathered-push (set slots l (Some v)) (get_or rs at d).own l v filled
-                ∙ ap (λ cs. cs ++ (l, v) ∷ []) (gathered-set slots l (Some v) (get_or rs at d).own own_nowhere ∙ sym (values_is o at d here)) in
+        ap (gathered (set slots l (Some v))) own ∙ gathered-push (set slots l (Some v)) (get_or rs at d).own l v filled
+        ∙ ap (λ cs. cs ++ (l, v) ∷ []) (gathered-set slots l (Some v) (get_or rs at d).own own_nowhere ∙ sym (values_is o at d here)) in
         maps-set (set slots l (Some v)) rs o at n here owner
-            ∙ (λ i. put nat_eq (maps-slot slots l (Some v) rs nowhere i) o (new i))
+        ∙ (λ i. put nat_eq (maps-slot slots l (Some v) rs nowhere i) o (new i))
 
   -- the slots of a region that was taken away, beside those of the others
   pub held_apart : IsStored slots rs → (o at : ℕ) (d : Region) → IsAt rs o at → IsHeld slots ((get_or rs at d).own ++ all_own (remove rs at))

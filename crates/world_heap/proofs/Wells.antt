@@ -1,11 +1,11 @@
 -- A heap stays well where a cell is added, and where one is replaced by one that is alike.
-use Rattle.std.proofs.Common.{◌≡◌, ◌≢◌, ℕ, zero, suc, ◌+◌, ◌≤◌, Bool, true, false, List, [], ◌∷◌, ◌++◌, Some, None, Option, refl, sym, ap, ◌∙◌, subst, arith, nat_eq, if◌then◌else◌, length, IsSomeAnd, ◌||◌}
+use Rattle.std.proofs.Common.{◌≡◌, ℕ, zero, suc, ◌+◌, ◌≤◌, true, false, List, [], ◌∷◌, ◌++◌, Some, None, Option, refl, sym, ap, ◌∙◌, subst, arith, nat_eq, if◌then◌else◌, IsSomeAnd, ◌||◌}
 use Rattle.std.specs.Option.{option_and_then, option_map_or}
 use Rattle.std.proofs.lemmas.Bool.Decides.{nat_tests}
 use Rattle.world_heap.specs.declared.cell.Cell.{Cell}
 use Rattle.world_heap.specs.declared.cell.Cell.TheVariants.{Object, Array, Closure, Native, Far, Error, Map, Set, Promise, Port, Buffer, View, Symbol, Env}
 use Rattle.world_heap.specs.Maps.{keys, find, put, stands, Stands, keys-append, keys-put, stands-push, find-push, find-put, find-stands}
-use Rattle.world_heap.specs.Over.{ListOver, OptionOver, CellOver, list_more, cell_more}
+use Rattle.world_heap.specs.Over.{ListOver, OptionOver, list_more, cell_more}
 use Rattle.world_heap.specs.Heaps.{proto_of, is_env, buffer_length, IsNoEnv, IsCell, IsWithin, Fits, ends, IsWell}
 
 -- two cells that others may not tell apart
@@ -100,7 +100,7 @@ ends_kept old new kept fit (suc n) l s h =
     let k = kept l found.0 found.1 in
     let proto = fits_proto old found.0 (fits_found (Fits nat_eq old) old l found.0 fit found.1) in
     ends_step new n l k.0 k.1 ∙ ap (λ o. option_map_or (ends nat_eq new n) o true) k.2.proto
-        ∙ by (proto_of found.0) (λ q. ends_kept old new kept fit n q) proto (sym (ends_step old n l found.0 found.1) ∙ h)
+    ∙ by (proto_of found.0) (λ q. ends_kept old new kept fit n q) proto (sym (ends_step old n l found.0 found.1) ∙ h)
   where
     by : (o : Option ℕ) → ((q : ℕ) → IsCell nat_eq old q → ends nat_eq old n q ≡ true → ends nat_eq new n q ≡ true) → OptionOver (IsNoEnv nat_eq old) o → option_map_or (ends nat_eq old n) o true ≡ true → option_map_or (ends nat_eq new n) o true ≡ true
     by None go p e = refl

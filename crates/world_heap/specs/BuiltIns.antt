@@ -1,7 +1,6 @@
 -- The cells that a heap has from the start (ECMA-262, 9.3.2: the intrinsic objects of a realm): plain objects without
 -- properties yet.
-use Rattle.std.specs.Prelude.{◌≡◌, ℕ, true, List, [], ◌∷◌, ◌++◌, length, map, Option, Some, None}
-use Rattle.world_heap.specs.declared.cell.Body.{Body}
+use Rattle.std.specs.Prelude.{◌≡◌, ℕ, true, List, [], ◌∷◌, ◌++◌, length, Option, Some, None}
 use Rattle.world_heap.specs.declared.cell.Cell.{Cell}
 use Rattle.world_heap.specs.declared.cell.Cell.TheVariants.{Object}
 use Rattle.world_heap.specs.declared.builtin.BuiltIn.{BuiltIn}

@@ -1,5 +1,5 @@
 -- How the counts of a heap grow, and which of them would first pass its limit.
-use Rattle.std.specs.Prelude.{◌≡◌, ℕ, ◌+◌, ◌<◌, ◌≤◌, ◌∷◌, [], ◌++◌, false, Option, Some, None, Result, Ok, Err, nat_lt, nat_eq, if◌then◌else◌}
+use Rattle.std.specs.Prelude.{◌≡◌, ℕ, ◌+◌, ◌∷◌, [], ◌++◌, false, Option, Some, None, Result, Ok, Err, nat_lt, nat_eq, if◌then◌else◌}
 use Rattle.world_heap.specs.declared.limits.Counts.{Counts}
 use Rattle.world_heap.specs.declared.limits.HeapFault.{HeapFault}
 use Rattle.world_heap.specs.declared.limits.HeapFault.TheVariants.{Cells, Places, Units, Memory}

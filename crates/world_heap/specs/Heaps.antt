@@ -1,10 +1,9 @@
 -- A heap: the list of its cells in the order in which they were made, each with its location, and what holds of it
 -- (ECMA-262, 10.1: objects with their prototypes and properties; 9.1: environments; 25.1: buffers and views).
-use Rattle.std.specs.Prelude.{◌≡◌, ℕ, zero, suc, ◌+◌, ◌≤◌, Bool, true, false, List, [], ◌∷◌, ◌++◌, length, Option, Some, None, option_map, nat_eq, IsSomeAnd}
+use Rattle.std.specs.Prelude.{◌≡◌, ℕ, zero, suc, ◌+◌, ◌≤◌, Bool, true, false, List, length, Option, Some, None, IsSomeAnd}
 use Rattle.std.specs.Option.{option_and_then, option_map_or}
-use Rattle.world_heap.specs.Maps.{keys, find, put, stands, Stands}
+use Rattle.world_heap.specs.Maps.{keys, find, stands}
 use Rattle.world_heap.specs.Over.{ListOver, CellOver}
-use Rattle.world_heap.specs.declared.cell.Body.{Body}
 use Rattle.world_heap.specs.declared.cell.Cell.{Cell}
 use Rattle.world_heap.specs.declared.cell.Cell.TheVariants.{Object, Array, Closure, Native, Far, Error, Map, Set, Promise, Port, Buffer, View, Symbol, Env}
 

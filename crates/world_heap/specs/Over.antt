@@ -1,5 +1,5 @@
 -- What holds of the locations and numbers that a value or a cell holds (the conditions on the cells of a heap).
-use Rattle.std.specs.Prelude.{◌≡◌, ℕ, ◌<◌, ◌≤◌, ◌≤ℤ◌, ℤ, pos, negsuc, List, [], ◌∷◌, length, Option, Some, None}
+use Rattle.std.specs.Prelude.{ℕ, ◌<◌, ◌≤◌, ◌≤ℤ◌, ℤ, pos, negsuc, List, [], ◌∷◌, length, Option, Some, None}
 use Rattle.world_heap.specs.declared.value.Value.{Value}
 use Rattle.world_heap.specs.declared.value.Value.TheVariants.{Undefined, Null, Bool, Num, Str, Ref}
 use Rattle.world_heap.specs.declared.value.Property.{Property}
@@ -9,8 +9,6 @@ use Rattle.world_heap.specs.declared.cell.PromiseState.{PromiseState}
 use Rattle.world_heap.specs.declared.cell.PromiseState.TheVariants.{Pending, Kept, Broken}
 use Rattle.world_heap.specs.declared.cell.Reaction.{Reaction}
 use Rattle.world_heap.specs.declared.cell.Reaction.TheVariants.{Then, Settled, Replied}
-use Rattle.world_heap.specs.declared.cell.Binding.{Binding}
-use Rattle.world_heap.specs.declared.cell.MapEntry.{MapEntry}
 use Rattle.world_heap.specs.declared.cell.Cell.{Cell}
 use Rattle.world_heap.specs.declared.cell.Cell.TheVariants.{Object, Array, Closure, Native, Far, Error, Map, Set, Promise, Port, Buffer, View, Symbol, Env}
 

@@ -1,5 +1,5 @@
 -- A new heap.
-use Rattle.std.specs.Prelude.{◌≡◌, ℕ, ◌+◌, List, [], ◌∷◌, ◌++◌, length}
+use Rattle.std.specs.Prelude.{◌≡◌, ℕ, ◌+◌, List, [], ◌++◌, length}
 use Rattle.world_heap.specs.declared.cell.Cell.{Cell}
 use Rattle.world_heap.specs.BuiltIns.{AreBuiltIn}
 use Rattle.world_heap.specs.Views.{Bounds, PoolView, HeapView}

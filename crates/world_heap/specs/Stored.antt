@@ -3,7 +3,7 @@
 use Rattle.std.specs.Prelude.{◌≡◌, ℕ, zero, suc, ◌+◌, List, [], ◌∷◌, ◌++◌, length, Option, Some, None, slice_index_or, nat_eq, false, if◌then◌else◌}
 use Rattle.cell_chunks.specs.Slots.{vacancies}
 use Rattle.world_heap.specs.declared.store.Region.{Region}
-use Rattle.world_heap.specs.Maps.{keys, stands}
+use Rattle.world_heap.specs.Maps.{stands}
 
 -- how many times the number stands in the list
 abbrev pub times : ℕ → List ℕ → ℕ

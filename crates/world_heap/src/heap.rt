@@ -241,6 +241,7 @@ impl Heap {
         ensures own { find nat_eq result.1.maps self.owner ≡ Some self.cells }
         ensures others { without nat_eq result.1.maps self.owner ≡ self.others }
         ensures given { result.1.given ≡ self.given }
+        ensures count { length result.1.maps ≡ length self.others + 1 }
         ensures owned { IsOwned result.1.maps self.owner self.counts self.base }
     {
         let Heap {

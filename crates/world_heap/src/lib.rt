@@ -13,9 +13,12 @@ mod value;
 
 pub use builtin::BuiltIn;
 pub use cell::{Binding, Body, Cell, MapEntry, PromiseState, Reaction};
-pub use pool::{Pool, Seat};
 pub use heap::Heap;
 pub use limits::{Counts, Full, HeapFault, Limits};
+pub use pool::{Pool, Seat};
 pub use table::Table;
 pub use value::{Loc, Property, Value};
 pub use world_kind::WorldKind;
+
+#[cfg(test)]
+mod tests;

@@ -15,7 +15,9 @@ fn one_more(first: usize) -> u64
 fn one_more_than(first: usize, second: usize) -> u64
     ensures { result ≡ min (1 + first + second) (2 ^ 64 - 1) }
 {
-    (first as u64).saturating_add(1).saturating_add(second as u64)
+    (first as u64)
+        .saturating_add(1)
+        .saturating_add(second as u64)
 }
 
 /// The places that a cell takes when it is added, or 2^64-1 where they are more.
@@ -31,7 +33,11 @@ pub fn place_count(cell: &Cell) -> u64
         Cell::Error { body, .. } => one_more(body.properties.len()),
         Cell::Map { body, entries } => one_more_than(body.properties.len(), entries.len()),
         Cell::Set { body, entries } => one_more_than(body.properties.len(), entries.len()),
-        Cell::Promise { body, reactions, .. } => one_more_than(body.properties.len(), reactions.len()),
+        Cell::Promise {
+            body,
+            reactions,
+            ..
+        } => one_more_than(body.properties.len(), reactions.len()),
         Cell::Port { body, .. } => one_more(body.properties.len()),
         Cell::Buffer { body, .. } => one_more(body.properties.len()),
         Cell::View { body, .. } => one_more(body.properties.len()),

@@ -1,4 +1,4 @@
-use Rattle.std.proofs.Common.{◌≡◌, sym, ◌∙◌}
+use Rattle.std.proofs.Common.{sym, ◌∙◌}
 use Rattle.world_heap.proofs.Regions.{at_position, at_found}
 use Rattle.world_heap.proofs.store.region_at.Goals as goal
 

@@ -1,10 +1,10 @@
-use Rattle.std.proofs.Common.{◌≡◌, ◌∙◌, ◌+◌, ◌∷◌, [], ◌++◌, Some, None, sym, subst, ap, nat_eq, length, List, ℕ, arith, length-append, false}
+use Rattle.std.proofs.Common.{◌≡◌, ◌∙◌, ◌+◌, ◌∷◌, [], ◌++◌, None, sym, subst, ap, nat_eq, length, List, ℕ, arith, length-append, false}
 use Rattle.world_heap.specs.declared.cell.Cell.{Cell}
 use Rattle.world_heap.specs.declared.limits.Counts.{Counts}
-use Rattle.world_heap.specs.Maps.{keys, find, put, without, stands}
+use Rattle.world_heap.specs.Maps.{keys, without, stands}
 use Rattle.world_heap.specs.Shelf.{values_of, Apart}
-use Rattle.world_heap.specs.Heaps.{Fits, IsWell, places_of, units_of}
-use Rattle.world_heap.specs.Views.{HeapView, IsPooled, IsOwned, IsCounted}
+use Rattle.world_heap.specs.Heaps.{Fits, IsWell, places_of}
+use Rattle.world_heap.specs.Views.{HeapView, IsPooled, IsOwned}
 use Rattle.world_heap.specs.Bounded.{bounds_of}
 use Rattle.world_heap.specs.Growth.{first_full, counts_with}
 use Rattle.world_heap.proofs.Wells.{well_push}
@@ -41,10 +41,10 @@ returns c =
     let own : values_of c.add.new.self h.owner ≡ cells = ap (λ ms. values_of ms h.owner) c.in-Ok.ensures.added ∙ values-put h.store h.owner cells c.self.invariant.1.stands in
     let others : without nat_eq c.add.new.self h.owner ≡ without nat_eq h.store h.owner = ap (λ ms. without nat_eq ms h.owner) c.in-Ok.ensures.added ∙ without-put h.store h.owner cells in
     let full : first_full (bounds_of h.limits) (counts_with h.counts c.args.cell) ≡ None = no_full (bounds_of h.limits) (counts_with h.counts c.args.cell)
-        (omega (arith, c.if-self.false)) (omega (arith, places, c.if-places-self.false, c.self.invariant.2.places)) (omega (arith, c.unit_count-units.ensures, c.if-units-self.false, c.self.invariant.2.units)) in
+    (omega (arith, c.if-self.false)) (omega (arith, places, c.if-places-self.false, c.self.invariant.2.places)) (omega (arith, c.unit_count-units.ensures, c.if-units-self.false, c.self.invariant.2.units)) in
     let goal_at : HeapView → Type 0 = λ v. (first_full v.limits (counts_with v.counts c.args.cell) ≡ None)
-        × (stands nat_eq (keys v.cells) c.of.result ≡ false) × Apart v.others c.of.result
-        × (record { owner = h.owner; cells = values_of c.add.new.self h.owner; others = without nat_eq c.add.new.self h.owner; counts = record { cells = h.counts.cells + 1; places = h.counts.places + c.place_count-places.result; units = h.counts.units + c.unit_count-units.result }; limits = bounds_of h.limits; base = h.base; given = h.given } ≡ record v { cells = v.cells ++ (c.of.result, c.args.cell) ∷ []; counts = counts_with v.counts c.args.cell }) in
+    × (stands nat_eq (keys v.cells) c.of.result ≡ false) × Apart v.others c.of.result
+    × (record { owner = h.owner; cells = values_of c.add.new.self h.owner; others = without nat_eq c.add.new.self h.owner; counts = record { cells = h.counts.cells + 1; places = h.counts.places + c.place_count-places.result; units = h.counts.units + c.unit_count-units.result }; limits = bounds_of h.limits; base = h.base; given = h.given } ≡ record v { cells = v.cells ++ (c.of.result, c.args.cell) ∷ []; counts = counts_with v.counts c.args.cell }) in
     subst goal_at c.self.view_is (
       full,
       rw number (apart_own h.store h.owner c.in-Ok.number c.in-Ok.ensures.apart),

@@ -1,11 +1,11 @@
-use Rattle.std.proofs.Common.{◌≡◌, ◌∙◌, ◌+◌, ◌∷◌, [], ◌++◌, Some, None, sym, subst, ap, refl, nat_eq, length, List, ℕ, arith, length-append, true, false, if◌then◌else◌, IsSomeAnd}
+use Rattle.std.proofs.Common.{◌≡◌, ◌∙◌, ◌+◌, ◌∷◌, [], ◌++◌, Some, sym, subst, ap, refl, nat_eq, length, List, ℕ, arith, length-append, true, false, if◌then◌else◌, IsSomeAnd}
 use Rattle.std.proofs.lemmas.Bool.Decides.{nat_tests}
 use Rattle.world_heap.specs.declared.cell.Cell.{Cell}
 use Rattle.world_heap.specs.Maps.{keys, find, put, without, stands, find-push}
-use Rattle.world_heap.specs.Shelf.{values_of, Apart}
+use Rattle.world_heap.specs.Shelf.{values_of}
 use Rattle.world_heap.specs.Over.{OptionOver}
 use Rattle.world_heap.specs.Heaps.{is_env, IsNoEnv, Fits, IsWell}
-use Rattle.world_heap.specs.Views.{HeapView, IsPooled, IsOwned, IsCounted}
+use Rattle.world_heap.specs.Views.{HeapView, IsPooled, IsOwned}
 use Rattle.world_heap.specs.Bounded.{bounds_of}
 use Rattle.world_heap.specs.BuiltIns.{plain_object}
 use Rattle.world_heap.specs.Starting.{with_built_in}
@@ -50,7 +50,7 @@ returns-clause-added c =
     let old : List (ℕ × Cell ℕ) = values_of h.store h.owner in
     let others : without nat_eq c.add.new.self h.owner ≡ without nat_eq h.store h.owner = ap (λ ms. without nat_eq ms h.owner) (grown c) ∙ without-put h.store h.owner (old ++ (c.in_ok-number.number, plain_object c.args.proto) ∷ []) in
     subst (λ (v : HeapView). record { owner = h.owner; cells = values_of c.add.new.self h.owner; others = without nat_eq c.add.new.self h.owner; counts = h.counts; limits = bounds_of h.limits; base = h.base + 1; given = h.given } ≡ with_built_in v ((c.of.result, plain_object c.args.proto) ∷ [])) c.self.view_is
-        (λ i. record { owner = h.owner; cells = (own c ∙ ap (λ l. old ++ (l, plain_object c.args.proto) ∷ []) (sym c.of.ensures)) i; others = others i; counts = h.counts; limits = bounds_of h.limits; base = h.base + 1; given = h.given })
+    (λ i. record { owner = h.owner; cells = (own c ∙ ap (λ l. old ++ (l, plain_object c.args.proto) ∷ []) (sym c.of.ensures)) i; others = others i; counts = h.counts; limits = bounds_of h.limits; base = h.base + 1; given = h.given })
 
 pub returns-clause-stands : goal.returns-clause-stands
 returns-clause-stands c =

@@ -1,4 +1,4 @@
-use Rattle.std.proofs.Common.{◌≡◌, ◌+◌, ◌∙◌, ◌∷◌, [], ◌++◌, Some, sym, ap, arith, length, length-append, ℕ, List}
+use Rattle.std.proofs.Common.{◌≡◌, ◌+◌, ◌∙◌, ◌∷◌, [], ◌++◌, Some, sym, ap, arith, length, length-append}
 use Rattle.world_heap.specs.Views.{HeapView}
 use Rattle.world_heap.specs.BuiltIns.{plain_object, objects}
 use Rattle.world_heap.specs.Starting.{with_built_in}

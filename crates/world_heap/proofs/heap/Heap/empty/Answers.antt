@@ -1,8 +1,8 @@
-use Rattle.std.proofs.Common.{◌≡◌, ◌∙◌, [], ◌∷◌, ◌++◌, ◌+◌, ap, subst, sym, refl, length, unwrap_or, nat_eq, arith, ℕ, List}
+use Rattle.std.proofs.Common.{◌≡◌, ◌∙◌, [], ◌+◌, ap, subst, length, unwrap_or, nat_eq, arith, ℕ, List}
 use Rattle.world_heap.specs.declared.cell.Cell.{Cell}
-use Rattle.world_heap.specs.Maps.{keys, find, without, stands, Stands}
+use Rattle.world_heap.specs.Maps.{without}
 use Rattle.world_heap.specs.Shelf.{values_of}
-use Rattle.world_heap.specs.Views.{PoolView, IsPooled, IsOwned}
+use Rattle.world_heap.specs.Views.{PoolView}
 use Rattle.world_heap.specs.Bounded.{bounds_of}
 use Rattle.world_heap.specs.Starting.{empty_heap}
 use Rattle.world_heap.proofs.Begun.{below_absent, find-last, without-last, stands-last, pooled_open}
@@ -38,4 +38,4 @@ returns c =
     let cells : values_of c.open.new.self given ≡ [] = ap (λ ms. values_of ms given) c.in_ok-open.ensures.ok ∙ ap (λ x. unwrap_or x []) (find-last maps given none absent) in
     let others : without nat_eq c.open.new.self given ≡ maps = ap (λ ms. without nat_eq ms given) c.in_ok-open.ensures.ok ∙ without-last maps given none absent in
     subst (λ (p : PoolView). record { owner = given; cells = values_of c.open.new.self given; others = without nat_eq c.open.new.self given; counts = record { cells = 0; places = 0; units = 0 }; limits = bounds_of c.args.limits; base = 0; given = given + 1 } ≡ empty_heap (bounds_of c.args.limits) p) c.pool.view_is
-        (λ i. record { owner = given; cells = cells i; others = others i; counts = record { cells = 0; places = 0; units = 0 }; limits = bounds_of c.args.limits; base = 0; given = given + 1 })
+    (λ i. record { owner = given; cells = cells i; others = others i; counts = record { cells = 0; places = 0; units = 0 }; limits = bounds_of c.args.limits; base = 0; given = given + 1 })

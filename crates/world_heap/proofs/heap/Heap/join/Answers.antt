@@ -1,4 +1,4 @@
-use Rattle.std.proofs.Common.{ap, nat_eq}
+use Rattle.std.proofs.Common.{nat_eq}
 use Rattle.world_heap.specs.Maps.{without}
 use Rattle.world_heap.specs.Shelf.{values_of}
 use Rattle.world_heap.specs.Views.{SeatView, PoolView}

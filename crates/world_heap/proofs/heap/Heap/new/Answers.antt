@@ -1,10 +1,10 @@
-use Rattle.std.proofs.Common.{◌≡◌, ◌∙◌, ◌+◌, ◌∷◌, [], ◌++◌, Some, None, refl, sym, ap, arith, length, ℕ, List}
+use Rattle.std.proofs.Common.{◌≡◌, ◌∙◌, ◌+◌, ◌∷◌, [], ◌++◌, None, refl, ap, arith, length, ℕ, List}
 use Rattle.world_heap.specs.declared.cell.Cell.{Cell}
 use Rattle.world_heap.specs.Views.{HeapView}
 use Rattle.world_heap.specs.BuiltIns.{plain_object, objects}
 use Rattle.world_heap.specs.Bounded.{bounds_of}
 use Rattle.world_heap.specs.Starting.{with_built_in, empty_heap}
-use Rattle.world_heap.proofs.Begun.{length-objects, with_built_in-twice, with_built_in-none}
+use Rattle.world_heap.proofs.Begun.{length-objects, with_built_in-twice}
 use Rattle.world_heap.proofs.heap.Heap.new.Goals as goal
 
 -- four lists of cells, one after another
@@ -12,7 +12,7 @@ in_row : (empty h : HeapView) (a b d e : List (ℕ × Cell ℕ)) (h1 h2 h3 h4 : 
     → h4 ≡ with_built_in empty (a ++ b ++ d ++ e)
 in_row empty h a b d e h1 h2 h3 h4 p q r s t =
     t ∙ ap (λ v. with_built_in v e) (s ∙ ap (λ v. with_built_in v d) (r ∙ ap (λ v. with_built_in v b) (q ∙ ap (λ v. with_built_in v a) p) ∙ with_built_in-twice empty a b) ∙ with_built_in-twice empty (a ++ b) d)
-        ∙ with_built_in-twice empty (a ++ b ++ d) e
+    ∙ with_built_in-twice empty (a ++ b ++ d) e
 
 pub add_objects-requires-2-clause-room : goal.add_objects-requires-2-clause-room
 add_objects-requires-2-clause-room c =

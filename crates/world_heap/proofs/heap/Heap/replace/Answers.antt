@@ -1,6 +1,6 @@
-use Rattle.std.proofs.Common.{◌≡◌, ◌∙◌, Some, sym, subst, ap, nat_eq, length, List, ℕ}
+use Rattle.std.proofs.Common.{◌≡◌, ◌∙◌, sym, subst, ap, nat_eq, List, ℕ}
 use Rattle.world_heap.specs.declared.cell.Cell.{Cell}
-use Rattle.world_heap.specs.Maps.{find, put, without}
+use Rattle.world_heap.specs.Maps.{put, without}
 use Rattle.world_heap.specs.Shelf.{values_of, IsAmong}
 use Rattle.world_heap.specs.Heaps.{IsCell, IsWell}
 use Rattle.world_heap.specs.Views.{HeapView, IsPooled, IsOwned}
@@ -13,7 +13,7 @@ written c =
     let h = c.self.inside in
     let among : IsAmong h.store h.owner c.args.loc = subst (λ (v : HeapView). IsCell nat_eq v.cells c.args.loc) (sym c.self.view_is) c.requires.stands in
     c.replace.ensures.is h.owner (subst (λ n. IsAmong h.store h.owner n) (sym c.number.ensures) among)
-        ∙ ap (λ n. put nat_eq h.store h.owner (put nat_eq (values_of h.store h.owner) n c.args.cell)) c.number.ensures
+    ∙ ap (λ n. put nat_eq h.store h.owner (put nat_eq (values_of h.store h.owner) n c.args.cell)) c.number.ensures
 
 pub invariant_of-self : goal.invariant_of-self
 invariant_of-self c =
@@ -34,4 +34,4 @@ returns-clause-is c =
     let own : values_of c.replace.new.self h.owner ≡ cells = ap (λ ms. values_of ms h.owner) (written c) ∙ values-put h.store h.owner cells c.self.invariant.1.stands in
     let others : without nat_eq c.replace.new.self h.owner ≡ without nat_eq h.store h.owner = ap (λ ms. without nat_eq ms h.owner) (written c) ∙ without-put h.store h.owner cells in
     subst (λ (v : HeapView). record { owner = h.owner; cells = values_of c.replace.new.self h.owner; others = without nat_eq c.replace.new.self h.owner; counts = h.counts; limits = Rattle.world_heap.specs.Bounded.bounds_of h.limits; base = h.base; given = h.given } ≡ record v { cells = put nat_eq v.cells c.args.loc c.args.cell }) c.self.view_is
-        (λ i. record { owner = h.owner; cells = own i; others = others i; counts = h.counts; limits = Rattle.world_heap.specs.Bounded.bounds_of h.limits; base = h.base; given = h.given })
+    (λ i. record { owner = h.owner; cells = own i; others = others i; counts = h.counts; limits = Rattle.world_heap.specs.Bounded.bounds_of h.limits; base = h.base; given = h.given })

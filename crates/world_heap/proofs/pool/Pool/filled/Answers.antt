@@ -1,4 +1,4 @@
-use Rattle.std.proofs.Common.{◌∙◌, ap, sum_by, length, ℕ, List}
+use Rattle.std.proofs.Common.{◌∙◌, ap, sum_by, length}
 use Rattle.world_heap.specs.Views.{PoolView}
 use Rattle.world_heap.proofs.pool.Pool.filled.Goals as goal
 

@@ -1,9 +1,9 @@
-use Rattle.std.proofs.Common.{◌≡◌, ◌++◌, ◌∷◌, [], ◌<◌, Some, None, refl, sym, ap, ◌∙◌, subst, arith, get_or, set, replicate, length, nat_eq}
+use Rattle.std.proofs.Common.{◌++◌, ◌∷◌, [], Some, None, sym, ap, ◌∙◌, subst, arith, set, length, nat_eq}
 use Rattle.std.proofs.lemmas.List.{set-get_or}
 use Rattle.world_heap.specs.declared.store.Region.{Region}
 use Rattle.world_heap.specs.Maps.{keys, put, Stands}
 use Rattle.world_heap.specs.Shelf.{values_of, Apart}
-use Rattle.world_heap.specs.Stored.{IsAt, IsStored, all_own, owners, maps}
+use Rattle.world_heap.specs.Stored.{IsAt, IsStored, owners, maps}
 use Rattle.world_heap.proofs.Regions.{keys-maps, at_owner, at_within, maps-more}
 use Rattle.world_heap.proofs.Storing.{stored_room, stored_add, apart_add, add_is, set_back}
 use Rattle.world_heap.proofs.store.Store.add.Goals as goal
@@ -49,8 +49,8 @@ returns-in-Ok-push-clause-added g c =
     let own = c.in-Ok-push.ensures.ok ∙ ap (λ (r : Region). r.own ++ c.in-Ok.slot.0 ∷ []) c.index_mut.ensures.value in
     let view = ap (λ xs. maps xs regions) c.in_ok-make_room.ensures.more.1 ∙ maps-more c.self.inside.chunks c.in_ok-make_room.ensures.more.0 regions ∙ c.self.view_is in
     ap (λ xs. maps xs (set regions c.region_at-at.result region)) c.in-Ok.ensures.filled.1
-        ∙ add_is slots regions stored c.args.owner c.region_at-at.result c.in-Ok.slot.0 c.index_mut.result.now region c.args.value at c.in-Ok.ensures.filled.0 owner own
-        ∙ ap (λ ms. put nat_eq ms c.args.owner (values_of ms c.args.owner ++ (c.in-Ok.slot.0, c.args.value) ∷ [])) view
+    ∙ add_is slots regions stored c.args.owner c.region_at-at.result c.in-Ok.slot.0 c.index_mut.result.now region c.args.value at c.in-Ok.ensures.filled.0 owner own
+    ∙ ap (λ ms. put nat_eq ms c.args.owner (values_of ms c.args.owner ++ (c.in-Ok.slot.0, c.args.value) ∷ [])) view
 
 pub returns-in-Ok-push-clause-apart : goal.returns-in-Ok-push-clause-apart
 returns-in-Ok-push-clause-apart g c =

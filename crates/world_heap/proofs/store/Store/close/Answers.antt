@@ -1,8 +1,7 @@
-use Rattle.std.proofs.Common.{◌≡◌, ◌++◌, ◌∷◌, [], Some, None, refl, sym, ap, ◌∙◌, subst, arith, get_or, remove, set, length, nat_eq, length-append, rules}
-use Rattle.cell_chunks.specs.Slots.{IsFilled}
+use Rattle.std.proofs.Common.{◌++◌, refl, sym, ap, ◌∙◌, subst, arith, remove, length, nat_eq}
 use Rattle.world_heap.specs.declared.store.Region.{Region}
 use Rattle.world_heap.specs.Maps.{keys, without, Stands}
-use Rattle.world_heap.specs.Stored.{IsHeld, IsAt, IsStored, all_own, owners, maps}
+use Rattle.world_heap.specs.Stored.{IsHeld, IsAt, all_own, owners, maps}
 use Rattle.world_heap.proofs.Regions.{keys-maps, at_within, maps-remove, distinct-remove}
 use Rattle.world_heap.proofs.Storing.{held_apart, held_less, last_filled, last_alone}
 use Rattle.world_heap.proofs.store.Store.close.Goals as goal
@@ -57,5 +56,5 @@ pub returns : goal.returns
 returns g c =
     let at = subst (λ rs. IsAt rs c.args.owner c.region_at-at.result) c.as_slice.ensures.value c.region_at-at.ensures in
     c.values.invariant.kept ∙ ap (maps c.self.inside.chunks) c.remove-region.ensures.items
-        ∙ maps-remove c.self.inside.chunks c.self.inside.regions.items c.args.owner c.region_at-at.result at
-        ∙ ap (λ ms. without nat_eq ms c.args.owner) c.self.view_is
+    ∙ maps-remove c.self.inside.chunks c.self.inside.regions.items c.args.owner c.region_at-at.result at
+    ∙ ap (λ ms. without nat_eq ms c.args.owner) c.self.view_is

@@ -1,6 +1,4 @@
-use Rattle.std.proofs.Common.{◌≡◌, ◌+◌, length, sum_by, sym, ap, ◌∙◌, arith, ℕ, List}
-use Rattle.cell_chunks.specs.Slots.{vacancies}
-use Rattle.world_heap.specs.Stored.{all_own}
+use Rattle.std.proofs.Common.{arith}
 use Rattle.world_heap.proofs.Regions.{stored_filled, sum-maps}
 use Rattle.world_heap.proofs.store.Store.filled.Goals as goal
 

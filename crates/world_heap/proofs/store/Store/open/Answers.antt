@@ -1,7 +1,7 @@
-use Rattle.std.proofs.Common.{◌≡◌, [], ◌∷◌, ◌++◌, false, nat_eq, sym, ap, ◌∙◌, subst, refl, length}
+use Rattle.std.proofs.Common.{◌≡◌, [], ◌∷◌, ◌++◌, false, nat_eq, sym, ap, ◌∙◌, subst, refl}
 use Rattle.world_heap.specs.declared.store.Region.{Region}
 use Rattle.world_heap.specs.Maps.{keys, stands}
-use Rattle.world_heap.specs.Stored.{IsStored, IsHeld, owners, maps, all_own}
+use Rattle.world_heap.specs.Stored.{IsHeld, owners, maps}
 use Rattle.world_heap.proofs.Regions.{keys-maps, maps-push, all_own-push, distinct-push}
 use Rattle.world_heap.proofs.store.Store.open.Goals as goal
 

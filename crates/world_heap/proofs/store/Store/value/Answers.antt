@@ -1,4 +1,4 @@
-use Rattle.std.proofs.Common.{◌≡◌, Some, sym, ap, ◌∙◌, subst, nat_eq}
+use Rattle.std.proofs.Common.{◌≡◌, Some, sym, subst, nat_eq}
 use Rattle.world_heap.specs.Maps.{find}
 use Rattle.world_heap.specs.Shelf.{values_of, IsAmong}
 use Rattle.world_heap.proofs.Storing.{among_filled, among_find}
@@ -11,4 +11,4 @@ get-requires g c =
 pub returns : goal.returns
 returns g c = λ owner among.
     subst (λ ms. find nat_eq (values_of ms owner) c.args.loc ≡ Some c.get.result.now) c.self.view_is
-        (among_find c.self.inside.chunks c.self.inside.regions.items c.self.invariant owner c.args.loc c.get.result.now (subst (λ ms. IsAmong ms owner c.args.loc) (sym c.self.view_is) among) c.get.ensures)
+    (among_find c.self.inside.chunks c.self.inside.regions.items c.self.invariant owner c.args.loc c.get.result.now (subst (λ ms. IsAmong ms owner c.args.loc) (sym c.self.view_is) among) c.get.ensures)
