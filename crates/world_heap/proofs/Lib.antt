@@ -5,3 +5,4 @@ pub mod Wells
 pub mod Pooling
 pub mod Counting
 pub mod Begun
+pub mod Bodying

@@ -4,6 +4,7 @@ pub mod Shelf
 pub mod Stored
 pub mod Over
 pub mod Heaps
+pub mod Bodies
 pub mod Views
 pub mod Bounded
 pub mod Growth
