@@ -1,2 +1,4 @@
 pub mod Own
 pub mod Chains
+pub mod Gets
+pub mod Standing

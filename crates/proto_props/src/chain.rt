@@ -2,6 +2,7 @@
 ghost use Rattle.std.specs.Prelude.{◌≡◌, length, nat_eq};
 ghost use Rattle.world_heap.specs.Heaps.{IsCell};
 ghost use Rattle.proto_props.specs.Chains.{search, holder};
+ghost use Rattle.proto_props.specs.Standing.{ReachStands};
 
 use crate::own::{Look, seen};
 use wl_text::Units;
@@ -19,7 +20,8 @@ pub enum Reach<L = Loc> {
 /// Where the search for a key from a location on ends. It takes no memory.
 pub fn search_from(heap: &Heap, loc: Loc, key: &Units) -> Reach
     requires { IsCell nat_eq heap.now.cells loc }
-    ensures { result ≡ search nat_eq heap.now.cells key.now (length heap.now.cells) loc }
+    ensures is { result ≡ search nat_eq heap.now.cells key.now (length heap.now.cells) loc }
+    ensures stands { ReachStands heap.now.cells result }
 {
     let mut at = loc;
     let mut left = heap.len();

@@ -3,6 +3,8 @@
 
 mod chain;
 
+mod get;
 mod own;
 
+pub use get::{Got, get_step};
 pub use chain::{Reach, find, search_from};
