@@ -6,3 +6,4 @@ pub mod Pooling
 pub mod Counting
 pub mod Begun
 pub mod Bodying
+pub mod Sorting

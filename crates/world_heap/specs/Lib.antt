@@ -10,3 +10,4 @@ pub mod Bounded
 pub mod Growth
 pub mod BuiltIns
 pub mod Starting
+pub mod Keys

@@ -5,6 +5,7 @@ mod bodies;
 mod builtin;
 mod cell;
 mod heap;
+mod keys;
 mod limits;
 mod pool;
 mod size;

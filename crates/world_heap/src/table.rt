@@ -1,8 +1,8 @@
 //! Tables from names to what stands under them, in the order in which the names were first put.
-ghost use Rattle.std.specs.Prelude.{◌≡◌, [], ◌∷◌, length, slice_get, OnOk, OnErr, IfOk, IfSome, nat_eq};
+ghost use Rattle.std.specs.Prelude.{◌≡◌, [], ◌<◌, Some, length, slice_get, OnOk, OnErr, IfOk, IfSome, nat_eq};
 ghost use Rattle.std.specs.Cmp.Lexicographic.{pointwise};
 ghost use Rattle.std.specs.Option.{option_copied};
-ghost use Rattle.std.specs.Map.{lookup};
+ghost use Rattle.std.specs.Map.{keys_of};
 ghost use Rattle.world_heap.specs.Table.{found_under, put_under, left_without};
 
 use indexmap::IndexMap;
@@ -42,6 +42,17 @@ impl<V> Table<V> {
         ensures { result ≡ length self.now }
     {
         self.entries.len()
+    }
+
+    /// The name at a place, in the order in which the names were first put.
+    pub fn name(&self, at: usize) -> &Units
+        requires { at < length self.now }
+        ensures { slice_get (keys_of self.now) at ≡ Some result.now }
+    {
+        match self.entries.get_index(at) {
+            Some((name, _)) => name,
+            None => unreachable!(),
+        }
     }
 
     /// What stands under a name. The cost is constant on average.
