@@ -1,12 +1,12 @@
 -- A cell whose body is exchanged.
-use Rattle.std.proofs.Common.{◌≡◌, ℕ, true, false, List, [], ◌∷◌, Some, None, Option, refl, sym, ap, ◌∙◌, subst, arith, nat_eq, if◌then◌else◌}
+use Rattle.std.proofs.Common.{◌≡◌, ℕ, true, false, List, [], ◌∷◌, Some, None, Option, refl, sym, ap, ◌∙◌, subst, arith, nat_eq, if◌then◌else◌, length-set}
 use Rattle.std.specs.Option.{option_and_then, option_map_or}
 use Rattle.std.proofs.lemmas.Bool.Decides.{nat_tests}
 use Rattle.world_heap.specs.declared.cell.Body.{Body}
 use Rattle.world_heap.specs.declared.cell.Cell.{Cell}
 use Rattle.world_heap.specs.Maps.{keys, find, put, Stands, keys-put}
 use Rattle.world_heap.specs.Shelf.{values_of, IsAmong}
-use Rattle.world_heap.specs.Bodies.{body_of, with_body, rebodied}
+use Rattle.world_heap.specs.Bodies.{body_of, with_body, with_byte, rebodied, rewritten}
 use Rattle.world_heap.specs.declared.cell.Cell.TheVariants.{Object, Array, Closure, Native, Far, Error, Map, Set, Promise, Port, Buffer, View, Symbol, Env}
 use Rattle.world_heap.specs.Over.{BodyOver, CellOver}
 use Rattle.world_heap.specs.Heaps.{IsNoEnv, IsCell, IsWithin, Fits, IsWell}
@@ -42,9 +42,9 @@ module _ {T : Type 0} (maps new : List (ℕ × List (ℕ × T))) (o l : ℕ) (x 
   written_twice y last q =
       let once = put nat_eq (values_of maps o) l x in
       q ∙ ap (λ ms. put nat_eq ms o (put nat_eq (values_of ms o) l y)) e
-          ∙ ap (λ cs. put nat_eq (put nat_eq maps o once) o (put nat_eq cs l y)) (values-put maps o once s)
-          ∙ put-put maps o once (put nat_eq once l y)
-          ∙ ap (put nat_eq maps o) (put-put (values_of maps o) l x y)
+      ∙ ap (λ cs. put nat_eq (put nat_eq maps o once) o (put nat_eq cs l y)) (values-put maps o once s)
+      ∙ put-put maps o once (put nat_eq once l y)
+      ∙ ap (put nat_eq maps o) (put-put (values_of maps o) l x y)
 
 -- A cell with another body of the same prototype is alike, and fits where the body does.
 pub alike_body : (c : Cell ℕ) (b d : Body ℕ) → body_of c ≡ Some b → d.proto ≡ b.proto → Alike c (with_body c d)
@@ -105,3 +105,44 @@ well_rebody cells l b d h e k well =
     let fit = fits_found (Fits nat_eq cells) cells l c well.fits found.1 in
     let new = body_fits (IsNoEnv nat_eq cells) (IsCell nat_eq cells) (IsWithin nat_eq cells) c d fit k in
     subst (IsWell nat_eq) (sym (rebodied_is cells l c d found.1)) (well_put cells l (with_body c d) c found.1 (alike_body c b d found.2 e) well new)
+
+pub rewritten_is : (cells : List (ℕ × Cell ℕ)) (l : ℕ) (c : Cell ℕ) (at byte : ℕ) → find nat_eq cells l ≡ Some c → rewritten cells l at byte ≡ put nat_eq cells l (with_byte c at byte)
+rewritten_is cells l c at byte h = ap (λ o. option_map_or (λ d. put nat_eq cells l (with_byte d at byte)) o cells) h
+
+-- A buffer with another byte is alike, and fits.
+pub alike_byte : (c : Cell ℕ) (at byte : ℕ) → Alike c (with_byte c at byte)
+alike_byte (Object a) at byte = record { env = refl; proto = refl; bytes = refl }
+alike_byte (Array p vs f) at byte = record { env = refl; proto = refl; bytes = refl }
+alike_byte (Closure a n v r) at byte = record { env = refl; proto = refl; bytes = refl }
+alike_byte (Native a i vs) at byte = record { env = refl; proto = refl; bytes = refl }
+alike_byte (Far a n) at byte = record { env = refl; proto = refl; bytes = refl }
+alike_byte (Error a k) at byte = record { env = refl; proto = refl; bytes = refl }
+alike_byte (Map a es) at byte = record { env = refl; proto = refl; bytes = refl }
+alike_byte (Set a vs) at byte = record { env = refl; proto = refl; bytes = refl }
+alike_byte (Promise a s rs) at byte = record { env = refl; proto = refl; bytes = refl }
+alike_byte (Port a n v ms cs) at byte = record { env = refl; proto = refl; bytes = refl }
+alike_byte (Buffer a bs) at byte = record { env = refl; proto = refl; bytes = ap Some (length-set bs at byte) }
+alike_byte (View a l o n) at byte = record { env = refl; proto = refl; bytes = refl }
+alike_byte (Symbol t) at byte = record { env = refl; proto = refl; bytes = refl }
+alike_byte (Env o bs) at byte = record { env = refl; proto = refl; bytes = refl }
+
+byte_fits : (P E : ℕ → Type 0) (V : ℕ → ℕ → ℕ → Type 0) (c : Cell ℕ) (at byte : ℕ) → CellOver P E V c → CellOver P E V (with_byte c at byte)
+byte_fits P E V (Object a) at byte h = h
+byte_fits P E V (Array p vs f) at byte h = h
+byte_fits P E V (Closure a n v r) at byte h = h
+byte_fits P E V (Native a i vs) at byte h = h
+byte_fits P E V (Far a n) at byte h = h
+byte_fits P E V (Error a k) at byte h = h
+byte_fits P E V (Map a es) at byte h = h
+byte_fits P E V (Set a vs) at byte h = h
+byte_fits P E V (Promise a s rs) at byte h = h
+byte_fits P E V (Port a n v ms cs) at byte h = h
+byte_fits P E V (Buffer a bs) at byte h = (h.0, rw (length-set bs at byte) h.1)
+byte_fits P E V (View a l o n) at byte h = h
+byte_fits P E V (Symbol t) at byte h = h
+byte_fits P E V (Env o bs) at byte h = h
+
+pub well_rewrite : (cells : List (ℕ × Cell ℕ)) (l at byte : ℕ) (c : Cell ℕ) → find nat_eq cells l ≡ Some c → IsWell nat_eq cells → IsWell nat_eq (put nat_eq cells l (with_byte c at byte))
+well_rewrite cells l at byte c found well =
+    let fit = fits_found (Fits nat_eq cells) cells l c well.fits found in
+    well_put cells l (with_byte c at byte) c found (alike_byte c at byte) well (byte_fits (IsNoEnv nat_eq cells) (IsCell nat_eq cells) (IsWithin nat_eq cells) c at byte fit)

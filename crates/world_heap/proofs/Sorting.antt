@@ -83,7 +83,7 @@ times_sum k (x ∷ xs) = sum_by-cons (λ x. if nat_eq k x then 1 else 0) x xs �
 pub sorted_is : (xs ys : List ℕ) → IsPermutation xs ys → IsSorted nat_cmp ys → ys ≡ ascending xs
 sorted_is xs ys p s =
     same_rising 0 0 ys (ascending xs) (sorted_rises 0 ys (λ k less. at k (s k 0 (omega arith) less)) (λ _. omega arith)) (rises_ascending xs)
-        (λ k. sym (times_sum k ys) ∙ sum_by-IsPermutation (λ x. if nat_eq k x then 1 else 0) xs ys p ∙ times_sum k xs ∙ sym (times_ascending k xs))
+    (λ k. sym (times_sum k ys) ∙ sum_by-IsPermutation (λ x. if nat_eq k x then 1 else 0) xs ys p ∙ times_sum k xs ∙ sym (times_ascending k xs))
   where
     at : (k : ℕ) → is_lt (nat_cmp (get_or ys (k + 1) 0) (get_or ys k 0)) ≡ false → get_or ys k 0 ≤ get_or ys (k + 1) 0
     at k e =

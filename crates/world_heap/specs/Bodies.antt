@@ -65,3 +65,7 @@ HasBody cells l = (b : Body ℕ) × (option_and_then body_of (find nat_eq cells 
 -- the heap with another body in the cell at a location
 abbrev pub rebodied : List (ℕ × Cell ℕ) → ℕ → Body ℕ → List (ℕ × Cell ℕ)
 rebodied cells l b = option_map_or (λ c. put nat_eq cells l (with_body c b)) (find nat_eq cells l) cells
+
+-- the heap with another byte in the buffer at a location
+abbrev pub rewritten : List (ℕ × Cell ℕ) → ℕ → ℕ → ℕ → List (ℕ × Cell ℕ)
+rewritten cells l at byte = option_map_or (λ c. put nat_eq cells l (with_byte c at byte)) (find nat_eq cells l) cells

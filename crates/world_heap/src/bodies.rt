@@ -1,10 +1,11 @@
 //! The bodies of cells.
-ghost use Rattle.std.specs.Prelude.{◌≡◌};
+ghost use Rattle.std.specs.Prelude.{◌≡◌, slice_set};
 ghost use Rattle.std.specs.Option.{option_copied};
 ghost use Rattle.world_heap.specs.Bodies.{body_of, with_body, with_byte};
 
 use crate::cell::{Body, Cell};
 use crate::store::discard;
+use sqlite_items::Items;
 
 /// The body of a cell; arrays, symbols and environments have none.
 pub fn body(cell: &Cell) -> Option<&Body>
@@ -108,5 +109,27 @@ pub(crate) fn exchanged(cell: Cell, new: Body) -> (Cell, Option<Body>)
             discard(new);
             (other, None)
         }
+    }
+}
+
+// A buffer with another byte at a place; any other cell stays as it is.
+pub(crate) fn written(cell: Cell, at: usize, byte: u8) -> Cell
+    ensures { result ≡ with_byte cell at byte }
+{
+    match cell {
+        Cell::Buffer { body, mut bytes } => {
+            put_byte(&mut bytes, at, byte);
+            Cell::Buffer { body, bytes }
+        }
+        other => other,
+    }
+}
+
+// Another byte at a place, where there is one.
+fn put_byte(bytes: &mut Items<u8>, at: usize, byte: u8)
+    ensures { bytes.new ≡ slice_set bytes.old at byte }
+{
+    if at < bytes.len() {
+        bytes.set(at, byte);
     }
 }

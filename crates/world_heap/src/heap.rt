@@ -7,12 +7,12 @@ ghost use Rattle.world_heap.specs.Heaps.{IsNoEnv, IsCell, Fits, IsWell};
 ghost use Rattle.world_heap.specs.BuiltIns.{plain_object, objects, place_of};
 ghost use Rattle.world_heap.specs.Views.{IsOwned};
 ghost use Rattle.std.specs.Option.{option_and_then};
-ghost use Rattle.world_heap.specs.Bodies.{body_of, HasBody, rebodied};
+ghost use Rattle.world_heap.specs.Bodies.{body_of, HasBody, rebodied, rewritten};
 ghost use Rattle.world_heap.specs.Growth.{Adds, Grows};
 ghost use Rattle.world_heap.specs.Bounded.{bounds_of};
 ghost use Rattle.world_heap.specs.Starting.{IsNew, empty_heap, with_built_in};
 
-use crate::bodies::exchanged;
+use crate::bodies::{exchanged, written};
 use crate::builtin::{BuiltIn, place_number};
 use crate::cell::{Body, Cell};
 use crate::limits::{Counts, Full, HeapFault, Limits};
@@ -238,6 +238,19 @@ impl Heap {
             Some(was) => was,
             None => unreachable!(),
         }
+    }
+
+    /// Puts a byte at a place of a buffer, where it has one; another cell stays as it is. It takes no memory, counts
+    /// nothing, and its cost is constant.
+    pub fn write_byte(&mut self, loc: Loc, at: usize, byte: u8)
+        requires { IsCell nat_eq self.old.cells loc }
+        ensures { self.new ≡ record self.old { cells = rewritten self.old.cells loc at byte } }
+    {
+        let cell = self
+            .store
+            .replace(loc.number(), Cell::Symbol { text: None });
+        let cell = written(cell, at, byte);
+        discard(self.store.replace(loc.number(), cell));
     }
 
     /// How many cells there are, those that are built in among them.

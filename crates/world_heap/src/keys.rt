@@ -69,7 +69,7 @@ fn sorted_out(alloc: Global, table: &Table<Property>) -> Result<(Vec<u32>, Vec<U
 }
 
 // The names of a table: array indices ascending, then the others in their order.
-fn ordered(alloc: Global, table: &Table<Property>) -> Result<Vec<Units>, AllocError>
+pub(crate) fn ordered(alloc: Global, table: &Table<Property>) -> Result<Vec<Units>, AllocError>
     ensures { IfOk result (λ names. names.items ≡ ordered_names (keys_of table.now)) }
 {
     let (indices, mut others) = sorted_out(alloc, table)?;

@@ -10,4 +10,4 @@ returns c =
     let all = take_all c.indices.index-index items (omega arith) in
     let names : c.indices.names.items ≡ map decimal items = c.indices.invariant ∙ ap (map decimal) all in
     c.in_ok-append.ensures.items ∙ ap (λ ns. ns ++ c.in_ok-indices.others.items) (names ∙ ap (map decimal) (c.deref-index-items.ensures.value ∙ c.in_ok-indices.ensures.0))
-        ∙ ap (λ ns. map decimal (Rattle.world_heap.specs.Keys.ascending (Rattle.world_heap.specs.Keys.indices_of (Rattle.std.specs.Map.keys_of c.args.table.now))) ++ ns) c.in_ok-indices.ensures.1
+    ∙ ap (λ ns. map decimal (Rattle.world_heap.specs.Keys.ascending (Rattle.world_heap.specs.Keys.indices_of (Rattle.std.specs.Map.keys_of c.args.table.now))) ++ ns) c.in_ok-indices.ensures.1

@@ -57,10 +57,10 @@ written c =
     let same = c.number.ensures ∙ sym c.number-2.ensures in
     let again : IsAmong c.replace-cell.new.self h.owner c.number.result = among_written h.store c.replace-cell.new.self h.owner c.number.result (Symbol None) c.self.invariant.1.stands first among in
     let second : c.replace.new.self ≡ put nat_eq c.replace-cell.new.self h.owner (put nat_eq (values_of c.replace-cell.new.self h.owner) c.number.result c.exchanged-cell.result.0) =
-        c.replace.ensures.is h.owner (subst (λ n. IsAmong c.replace-cell.new.self h.owner n) same again) ∙ ap (λ n. put nat_eq c.replace-cell.new.self h.owner (put nat_eq (values_of c.replace-cell.new.self h.owner) n c.exchanged-cell.result.0)) (sym same) in
+    c.replace.ensures.is h.owner (subst (λ n. IsAmong c.replace-cell.new.self h.owner n) same again) ∙ ap (λ n. put nat_eq c.replace-cell.new.self h.owner (put nat_eq (values_of c.replace-cell.new.self h.owner) n c.exchanged-cell.result.0)) (sym same) in
     written_twice h.store c.replace-cell.new.self h.owner c.number.result (Symbol None) c.self.invariant.1.stands first c.exchanged-cell.result.0 c.replace.new.self second
-        ∙ (λ i. put nat_eq h.store h.owner (put nat_eq own (c.number.ensures i) (c.exchanged-cell.ensures.cell i)))
-        ∙ ap (put nat_eq h.store h.owner) (sym (rebodied_is own c.args.loc c.replace-cell.result c.args.body (before c)))
+    ∙ (λ i. put nat_eq h.store h.owner (put nat_eq own (c.number.ensures i) (c.exchanged-cell.ensures.cell i)))
+    ∙ ap (put nat_eq h.store h.owner) (sym (rebodied_is own c.args.loc c.replace-cell.result c.args.body (before c)))
 
 pub invariant_of-self : goal.invariant_of-self
 invariant_of-self c =
@@ -78,7 +78,7 @@ invariant_of-self c =
 pub returns-clause-was : goal.returns-clause-was
 returns-clause-was c =
     subst (λ (v : HeapView). option_and_then body_of (find nat_eq v.cells c.args.loc) ≡ Some c.in-Some.was) c.self.view_is
-        (ap (option_and_then body_of) (before c) ∙ sym c.exchanged-cell.ensures.body ∙ c.in-Some.is)
+    (ap (option_and_then body_of) (before c) ∙ sym c.exchanged-cell.ensures.body ∙ c.in-Some.is)
 
 pub returns-clause-is : goal.returns-clause-is
 returns-clause-is c =
@@ -87,4 +87,4 @@ returns-clause-is c =
     let own : values_of c.replace.new.self h.owner ≡ cells = ap (λ ms. values_of ms h.owner) (written c) ∙ values-put h.store h.owner cells c.self.invariant.1.stands in
     let others : without nat_eq c.replace.new.self h.owner ≡ without nat_eq h.store h.owner = ap (λ ms. without nat_eq ms h.owner) (written c) ∙ without-put h.store h.owner cells in
     subst (λ (v : HeapView). record { owner = h.owner; cells = values_of c.replace.new.self h.owner; others = without nat_eq c.replace.new.self h.owner; counts = h.counts; limits = bounds_of h.limits; base = h.base; given = h.given } ≡ record v { cells = rebodied v.cells c.args.loc c.args.body }) c.self.view_is
-        (λ i. record { owner = h.owner; cells = own i; others = others i; counts = h.counts; limits = bounds_of h.limits; base = h.base; given = h.given })
+    (λ i. record { owner = h.owner; cells = own i; others = others i; counts = h.counts; limits = bounds_of h.limits; base = h.base; given = h.given })
