@@ -1,5 +1,5 @@
 -- A sorted list is the numbers ascending.
-use Rattle.std.proofs.Common.{◌≡◌, ◌≢◌, ℕ, zero, suc, ◌+◌, ◌<◌, ◌≤◌, Bool, true, false, List, [], ◌∷◌, ◌++◌, length, get_or, cond, refl, sym, ap, ◌∙◌, subst, arith, nat_eq, nat_le, if◌then◌else◌, sum_by, IsSorted, IsPermutation, take, slice_get, Option, Some, None, option_to_list, is_none}
+use Rattle.std.proofs.Common.{◌≡◌, ℕ, suc, ◌+◌, ◌<◌, ◌≤◌, true, false, List, [], ◌∷◌, ◌++◌, length, get_or, refl, sym, ap, ◌∙◌, subst, arith, nat_eq, nat_le, if◌then◌else◌, sum_by, IsSorted, IsPermutation, take, slice_get, Option, Some, None, option_to_list, is_none}
 use Rattle.std.specs.Ordering.{nat_cmp, is_lt}
 use Rattle.std.specs.declared.cmp.Ordering.TheVariants.{Less}
 use Rattle.std.specs.Cmp.{nat_cmp_is}

@@ -1,10 +1,9 @@
 -- The own keys of a cell (ECMA-262, 10.1.11: array indices ascending, then strings in the order of their creation;
 -- 10.4.2: arrays; 10.4.5: views).
-use Rattle.std.specs.Prelude.{ℕ, zero, suc, ◌≤◌, min, List, [], ◌∷◌, ◌++◌, length, map, filter, filter_map, is_none, Option, Some, None, if◌then◌else◌, nat_le, codes, decimal}
+use Rattle.std.specs.Prelude.{ℕ, zero, suc, min, List, [], ◌∷◌, ◌++◌, length, map, filter, filter_map, is_none, if◌then◌else◌, nat_le, codes, decimal}
 use Rattle.std.specs.Option.{option_map_or}
 use Rattle.std.specs.Map.{keys_of}
 use Rattle.wl_text.specs.Number.{index_of}
-use Rattle.world_heap.specs.declared.cell.Body.{Body}
 use Rattle.world_heap.specs.declared.cell.Cell.{Cell}
 use Rattle.world_heap.specs.declared.cell.Cell.TheVariants.{Array, View}
 use Rattle.world_heap.specs.Bodies.{body_of}

@@ -3,7 +3,7 @@ ghost use Rattle.std.specs.Prelude.{◌≡◌, [], ◌<◌, Some, length, slice_
 ghost use Rattle.std.specs.Cmp.Lexicographic.{pointwise};
 ghost use Rattle.std.specs.Option.{option_copied};
 ghost use Rattle.std.specs.Map.{keys_of};
-ghost use Rattle.world_heap.specs.Table.{found_under, put_under, left_without};
+ghost use Rattle.world_heap.specs.Table.{HasDistinctNames, found_under, put_under, left_without};
 
 use indexmap::IndexMap;
 use std::alloc::{AllocError, Global};
@@ -37,9 +37,10 @@ impl<V> Table<V> {
         }
     }
 
-    /// How many names there are.
+    /// How many names there are; no two of them are the same.
     pub fn len(&self) -> usize
-        ensures { result ≡ length self.now }
+        ensures count { result ≡ length self.now }
+        ensures distinct { HasDistinctNames self.now }
     {
         self.entries.len()
     }

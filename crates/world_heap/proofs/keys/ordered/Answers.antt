@@ -1,4 +1,4 @@
-use Rattle.std.proofs.Common.{◌≡◌, ◌∙◌, ◌++◌, ap, sym, take, map, decimal, length, arith}
+use Rattle.std.proofs.Common.{◌≡◌, ◌∙◌, ◌++◌, ap, map, decimal, arith}
 use Rattle.std.proofs.lemmas.List.{take_all}
 use Rattle.world_heap.specs.Keys.{ordered_names}
 use Rattle.world_heap.proofs.keys.ordered.Goals as goal
