@@ -5,6 +5,8 @@ mod chain;
 
 mod get;
 mod own;
+mod remove;
 
+pub use remove::delete;
 pub use get::{Got, get_step};
 pub use chain::{Reach, find, search_from};
