@@ -2,7 +2,8 @@
 ghost use Rattle.std.specs.Prelude.{◌≡◌, [], ◌<◌, Some, length, slice_get, OnOk, OnErr, IfOk, IfSome, nat_eq};
 ghost use Rattle.std.specs.Cmp.Lexicographic.{pointwise};
 ghost use Rattle.std.specs.Option.{option_copied};
-ghost use Rattle.std.specs.Map.{keys_of};
+ghost use Rattle.std.specs.Map.{keys_of, values_of};
+ghost use Rattle.indexmap.specs.IndexMap.{set_value_at};
 ghost use Rattle.world_heap.specs.Table.{HasDistinctNames, found_under, put_under, left_without};
 
 use indexmap::IndexMap;
@@ -73,6 +74,18 @@ impl<V: Drop> Table<V> {
     {
         self.entries.insert(name, value)?;
         Ok(())
+    }
+
+    /// Puts a value in the place of the one under the name at a place, and gives that one back. It takes no memory.
+    pub fn replace_at(&mut self, at: usize, value: V) -> V
+        requires { at < length self.old }
+        ensures was { slice_get (values_of self.old) at ≡ Some result }
+        ensures is { self.new ≡ set_value_at self.old at value }
+    {
+        match self.entries.get_index_mut(at) {
+            Some(place) => std::mem::replace(place, value),
+            None => unreachable!(),
+        }
     }
 
     /// Takes a name out; the others keep their order. It takes no memory, and its cost is linear in the names behind.
