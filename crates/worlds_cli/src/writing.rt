@@ -1,0 +1,225 @@
+//! The output of a command: written whole, or a front of it.
+ghost use Rattle.std.specs.Prelude.{◌≡◌, ◌≤◌, ◌++◌, ◌∷◌, [], codes, IfErr, IfOk, OnOk};
+ghost use Rattle.wl_causes.specs.Causes.{Rose};
+ghost use Rattle.wl_causes.specs.Taking.{with_more, TakesFront};
+ghost use Rattle.js_meaning.specs.Log.{log_of, made_by};
+ghost use Rattle.world_log.specs.Print.{printed_log, printed, main_name};
+ghost use Rattle.world_log.specs.declared.entry.LogItem.TheVariants.{World};
+ghost use Rattle.worlds_cli.specs.Clauses.{IsOfWriting};
+ghost use Rattle.worlds_cli.specs.Text.{told, kind_word, wire_word};
+
+use crate::status::{ScriptKind, Status};
+use js_meaning::{Literal, display};
+use sqlite_items::Items;
+use std::alloc::{AllocError, Global};
+use v8_wire::WireKind;
+use wl_causes::{Sink, write_whole};
+use world_log::{Delivery, Entry, Level, LogItem, Product, WorldName, print};
+
+/// Writes the printed log of a script of the first form, a line as soon as it is made.
+pub fn write_log<K: Sink>(
+    alloc: Global,
+    statements: &[Items<Literal>],
+    sink: &mut K,
+) -> Result<(), Status>
+    ensures ok { OnOk result (K.taken sink.new ≡ with_more (printed_log (log_of statements.now)) (K.taken sink.old)) }
+    ensures front { TakesFront (printed_log (log_of statements.now)) (K.taken sink.old) (K.taken sink.new) }
+    ensures err { IfErr result (IsOfWriting (Rose (K.faults sink.old) (K.faults sink.new))) }
+    ensures later { K.faults sink.old ≤ K.faults sink.new }
+{
+    let load = Entry::Delivery {
+        fresh: true,
+        what: Delivery::Load,
+    };
+    match write_entry(alloc, load, sink) {
+        Ok(()) => {}
+        Err(status) => return Err(status),
+    }
+    'statements: for literals in statements {
+        match write_console(alloc, literals, sink) {
+            Ok(()) => {}
+            Err(status) => return Err(status),
+        }
+    }
+    match write_entry(alloc, Entry::Product(Product::Rest(0)), sink) {
+        Ok(()) => {}
+        Err(status) => return Err(status),
+    }
+    Ok(())
+}
+
+/// Writes the line that tells a refusal.
+#[tactic(auto, unfolding(crate::specs::Text::told))]
+pub fn tell<K: Sink>(alloc: Global, status: &Status, sink: &mut K) -> Result<(), Status>
+    ensures ok { OnOk result (K.taken sink.new ≡ with_more (told status.now) (K.taken sink.old)) }
+    ensures front { TakesFront (told status.now) (K.taken sink.old) (K.taken sink.new) }
+    ensures err { IfErr result (IsOfWriting (Rose (K.faults sink.old) (K.faults sink.new))) }
+{
+    let line = match told_line(alloc, status) {
+        Ok(line) => line,
+        Err(_) => return Err(Status::Memory),
+    };
+    match write_line(sink, line.as_slice()) {
+        Ok(()) => {}
+        Err(status) => return Err(status),
+    }
+    Ok(())
+}
+
+// The line that tells a refusal.
+#[tactic(auto, unfolding(crate::specs::Text::told))]
+fn told_line(alloc: Global, status: &Status) -> Result<Vec<u8>, AllocError>
+    ensures { IfOk result (λ line. line.items ≡ told status.now) }
+{
+    let mut line = Vec::new(alloc);
+    match status {
+        Status::Done | Status::Memory | Status::SinkFault => {}
+        Status::Words => line.extend_from_slice(b"! words\n")?,
+        Status::FolderFault { file } => push_file(&mut line, b"! read ", file, b"\n")?,
+        Status::Absent { file } => push_file(&mut line, b"! absent ", file, b"\n")?,
+        Status::Script { file, place, kind } => {
+            let place = *place;
+            let word = word_of(*kind);
+            let rest = format!(in alloc; " {place} {word}\n")?;
+            push_file(&mut line, b"! script ", file, rest.as_bytes())?;
+        }
+        Status::Json { file } => push_file(&mut line, b"! json ", file, b"\n")?,
+        Status::Shape { file, key } => push_shape(&mut line, file, key)?,
+        Status::Wire { place, kind } => {
+            let place = *place;
+            let word = wire_word_of(*kind);
+            let rest = format!(in alloc; "! wire {place} {word}\n")?;
+            line.extend_from_slice(rest.as_bytes())?;
+        }
+        Status::TooLong { file, limit } => {
+            let limit = *limit;
+            let rest = format!(in alloc; " {limit}\n")?;
+            push_file(&mut line, b"! long ", file, rest.as_bytes())?;
+        }
+    }
+    Ok(line)
+}
+
+// A file's name between two texts.
+fn push_file(
+    line: &mut Vec<u8>,
+    front: &[u8],
+    file: &Items<u8>,
+    back: &[u8],
+) -> Result<(), AllocError>
+    ensures { OnOk result (line.new.items ≡ line.old.items ++ (front.now ++ (file.now ++ back.now))) }
+{
+    line.extend_from_slice(front)?;
+    line.extend_from_slice(file.as_slice())?;
+    line.extend_from_slice(back)?;
+    Ok(())
+}
+
+// The line of a broken key.
+fn push_shape(line: &mut Vec<u8>, file: &Items<u8>, key: &Items<u8>) -> Result<(), AllocError>
+    ensures { OnOk result (line.new.items ≡ line.old.items ++ (codes "! shape " ++ (file.now ++ (32 ∷ key.now ++ 10 ∷ [])))) }
+{
+    push_file(line, b"! shape ", file, b" ")?;
+    line.extend_from_slice(key.as_slice())?;
+    line.push(b'\n')?;
+    Ok(())
+}
+
+// The word of a reason.
+fn word_of(kind: ScriptKind) -> &'static str
+    ensures { result.now ≡ kind_word kind }
+{
+    match kind {
+        ScriptKind::NotBuilt => "notbuilt",
+    }
+}
+
+// The word of what is wrong with the bytes of a message.
+#[tactic(auto, unfolding(crate::specs::Text::wire_word))]
+fn wire_word_of(kind: WireKind) -> &'static str
+    ensures { result.now ≡ wire_word kind }
+{
+    match kind {
+        WireKind::Header => "header",
+        WireKind::Version => "version",
+        WireKind::Cut => "cut",
+        WireKind::Tag => "tag",
+        WireKind::Varint => "varint",
+        WireKind::Reference => "reference",
+        WireKind::Count => "count",
+        WireKind::Number => "number",
+        WireKind::Text => "text",
+        WireKind::Hole => "hole",
+        WireKind::Key => "key",
+        WireKind::Trailing => "trailing",
+        WireKind::TooLarge => "toolarge",
+        WireKind::View => "view",
+    }
+}
+
+// What a statement makes.
+#[tactic(auto, unfolding(js_meaning::specs::Log::made_by))]
+fn write_console<K: Sink>(
+    alloc: Global,
+    literals: &Items<Literal>,
+    sink: &mut K,
+) -> Result<(), Status>
+    ensures ok { OnOk result (K.taken sink.new ≡ with_more (printed (World main_name (made_by literals.now))) (K.taken sink.old)) }
+    ensures front { TakesFront (printed (World main_name (made_by literals.now))) (K.taken sink.old) (K.taken sink.new) }
+    ensures err { IfErr result (IsOfWriting (Rose (K.faults sink.old) (K.faults sink.new))) }
+    ensures later { K.faults sink.old ≤ K.faults sink.new }
+{
+    let text = match display(alloc, literals.as_slice()) {
+        Ok(text) => text,
+        Err(_) => return Err(Status::Memory),
+    };
+    match write_entry(
+        alloc,
+        Entry::Product(Product::Console(Level::Log, text)),
+        sink,
+    ) {
+        Ok(()) => {}
+        Err(status) => return Err(status),
+    }
+    Ok(())
+}
+
+// The line of an entry of the main world, written.
+fn write_entry<K: Sink>(alloc: Global, entry: Entry, sink: &mut K) -> Result<(), Status>
+    ensures ok { OnOk result (K.taken sink.new ≡ with_more (printed (World main_name entry)) (K.taken sink.old)) }
+    ensures front { TakesFront (printed (World main_name entry)) (K.taken sink.old) (K.taken sink.new) }
+    ensures err { IfErr result (IsOfWriting (Rose (K.faults sink.old) (K.faults sink.new))) }
+    ensures later { K.faults sink.old ≤ K.faults sink.new }
+{
+    let line = match line_of(alloc, entry) {
+        Ok(line) => line,
+        Err(_) => return Err(Status::Memory),
+    };
+    match write_line(sink, line.as_slice()) {
+        Ok(()) => {}
+        Err(status) => return Err(status),
+    }
+    Ok(())
+}
+
+// The line of an entry of the main world.
+fn line_of(alloc: Global, entry: Entry) -> Result<Vec<u8>, AllocError>
+    ensures { IfOk result (λ line. line.items ≡ printed (World main_name entry)) }
+{
+    let item = LogItem::World(WorldName::MAIN, entry);
+    print(alloc, &item)
+}
+
+/// A line, written whole or a front of it.
+pub fn write_line<K: Sink>(sink: &mut K, line: &[u8]) -> Result<(), Status>
+    ensures ok { OnOk result (K.taken sink.new ≡ with_more line.now (K.taken sink.old)) }
+    ensures front { TakesFront line.now (K.taken sink.old) (K.taken sink.new) }
+    ensures err { IfErr result (IsOfWriting (Rose (K.faults sink.old) (K.faults sink.new))) }
+    ensures later { K.faults sink.old ≤ K.faults sink.new }
+{
+    match write_whole(sink, line) {
+        Ok(()) => {}
+        Err(_) => return Err(Status::SinkFault),
+    }
+    Ok(())
+}
