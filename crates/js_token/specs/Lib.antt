@@ -1,0 +1,10 @@
+pub mod Characters
+pub mod Gaps
+pub mod Lists
+pub mod Literals
+pub mod Marks
+pub mod Nesting
+pub mod Numbers
+pub mod Reading
+pub mod Tokens
+pub mod Words

@@ -16,7 +16,8 @@ pub enum TokenKind {
     Number(i64),
     /// A string literal, with its escapes replaced.
     Text(Units),
-    /// A stretch of a template's text; `first` after the opening backquote, `last` before the closing one.
+    /// A stretch of a template's text; `first` after the opening backquote, `last` before the closing one. It begins
+    /// at the backquote, or at the `}` of the part before it.
     Piece {
         text: Units,
         first: bool,
@@ -32,27 +33,39 @@ pub enum TokenKind {
 /// token before.
 #[derive(Drop, PartialEq, Eq)]
 pub struct Token {
+    /// The byte offset at which it begins.
     pub place: u32,
+    /// Whether a line break stands before it, behind the token before.
     pub broken: bool,
+    /// What it is.
     pub kind: TokenKind,
 }
 
 /// Why a text has no token at a place.
 #[derive(Debug, Drop, Clone, Copy, PartialEq, Eq)]
 pub enum LexKind {
+    /// The text is not UTF-8, or begins with a byte order mark.
     Text,
+    /// A block comment is not ended.
     Comment,
+    /// A number is too large, or goes on in a way in which no number does.
     Number,
+    /// A string or a template has a wrong escape.
     Escape,
+    /// A string is not ended on its line.
     String,
+    /// A template is not ended.
     Template,
+    /// A character begins no token.
     Char,
 }
 
 /// The first place at which a text has no token, or want of memory.
 #[derive(Debug, Drop, Clone, Copy, PartialEq, Eq)]
 pub enum LexFault {
+    /// There is no token at the byte offset.
     At { place: u32, kind: LexKind },
+    /// Memory ran out.
     Memory,
 }
 

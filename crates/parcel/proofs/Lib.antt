@@ -1,0 +1,13 @@
+pub mod Agree
+pub mod Counting
+pub mod Lists
+pub mod Names
+pub mod NodeMet
+pub mod Prefixes
+pub mod Ranges
+pub mod Showing
+pub mod Splitting
+pub mod Tallies
+pub mod Telling
+pub mod Turning
+pub mod Walks

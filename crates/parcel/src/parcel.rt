@@ -1,6 +1,10 @@
 //! What a parcel is.
 use sqlite_items::Items;
+use std::alloc::AllocError;
 use wl_text::Units;
+
+/// What a call answers that fails only where memory runs out.
+pub type Mem<T> = Result<T, AllocError>;
 
 /// On whose side a function or a promise stands: the sender's own, or the far one.
 #[derive(Debug, Drop, Clone, Copy, PartialEq, Eq)]

@@ -1,0 +1,13 @@
+pub mod Laws
+pub mod Local
+pub mod Sets
+pub mod Complete
+pub mod Bars
+pub mod Completed
+pub mod Deeper
+pub mod Limits
+pub mod Pairs
+pub mod Lists
+pub mod Fronts
+pub mod Steps
+pub mod Sample

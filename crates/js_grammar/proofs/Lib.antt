@@ -1,0 +1,4 @@
+pub mod Tables
+pub mod Passes
+pub mod Ends
+pub mod Rows

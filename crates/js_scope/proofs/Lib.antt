@@ -1,0 +1,4 @@
+pub mod Walks
+pub mod Trees
+pub mod Found
+pub mod Places

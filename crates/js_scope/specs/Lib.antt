@@ -1,0 +1,4 @@
+pub mod Walk
+pub mod Names
+pub mod Rules
+pub mod Faults
