@@ -1,2 +1,4 @@
 mod Opened
 mod Scripts
+pub mod Relocating
+pub mod Continuing

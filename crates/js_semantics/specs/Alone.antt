@@ -39,6 +39,6 @@ Begins front whole = (rest : _) × (whole ≡ front ++ rest)
 unfoldable pub IsContinued : Type 0
 IsContinued = (setting : Setting) (ds more : List Arrival) → Begins (alone setting ds) (alone setting (ds ++ more))
 
--- There is one transcript for a setting and a list of deliveries.
+-- There is one transcript for each setting and list of deliveries, whatever distinct locations the cells get.
 unfoldable pub IsDetermined : Type 0
-IsDetermined = (setting : Setting) (ds : List Arrival) (one other : List Entry) → one ≡ alone setting ds → other ≡ alone setting ds → one ≡ other
+IsDetermined = (supply other : ℕ → ℕ) (setting : Setting) (ds : List Arrival) → IsDistinctSupply (cells_of setting) supply → IsDistinctSupply (cells_of setting) other → entries (alone_by supply setting ds) ≡ entries (alone_by other setting ds)

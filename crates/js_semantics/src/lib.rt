@@ -3,8 +3,10 @@
 
 mod entry;
 mod fault;
+mod laws;
 mod native;
 
 pub use entry::{Delivery, Entry, Mode, Product, Stop};
 pub use fault::Fault;
+pub use laws::{continued, determined, renaming};
 pub use native::Native;
