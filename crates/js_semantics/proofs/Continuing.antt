@@ -1,14 +1,13 @@
 -- The transcript of more deliveries begins with that of the first ones.
-use Rattle.std.proofs.Common.{◌≡◌, ℕ, zero, suc, List, [], ◌∷◌, ◌++◌, Bool, true, false, refl, ap}
+use Rattle.std.proofs.Common.{ℕ, zero, suc, List, [], ◌∷◌, ◌++◌, Bool, true, false, refl, ap}
 use Rattle.std.specs.Prelude.{if◌then◌else◌, nat_eq}
-use Rattle.js_semantics.specs.declared.entry.Entry.{Entry}
 use Rattle.js_semantics.specs.declared.entry.Mode.{Mode}
 use Rattle.js_semantics.specs.declared.entry.Mode.TheVariants.{Idle}
 use Rattle.js_semantics.specs.declared.entry.Entry.TheVariants as entry
 use Rattle.js_semantics.specs.World.{World, limited}
 use Rattle.js_semantics.specs.Prog.{Prog, Cont, Outcome, End, Over, Enter, Make, Read, Write, Place, Await, Request, bind}
 use Rattle.js_semantics.specs.Rows.{row}
-use Rattle.js_semantics.specs.Run.{Arrival, Setting, Trace, Then, Cut, Ending, Entering, Placing, Waiting, Budget, entries, walk, take_place, go_with, end_with, spend, receive, refilled, fits, deliver, run, first_world, first_budget}
+use Rattle.js_semantics.specs.Run.{Arrival, Trace, Then, Cut, Ending, Entering, Placing, Waiting, entries, walk, take_place, go_with, end_with, spend, receive, refilled, fits, deliver, run, first_world}
 use Rattle.js_semantics.specs.Alone.{Begins, IsContinued, alone, alone_by, trace_of, cells_of}
 
 empty_begins : {A : Type 0} (xs : List A) → Begins [] xs

@@ -11,7 +11,7 @@ use mathlib.Core.Path.{PathP, fun_ext}
 use mathlib.Core.Equiv.{Iso, iso_to_equiv}
 use Rattle.js_semantics.specs.World.{limited}
 use Rattle.js_semantics.specs.Run.{Setting, Arrival, entries}
-use Rattle.js_semantics.specs.Alone.{trace_of, alone_by, alone, cells_of, IsDistinctSupply, IsRenamed, IsDetermined}
+use Rattle.js_semantics.specs.Alone.{trace_of, alone_by, alone, cells_of, IsRenamed, IsDetermined}
 
 abbrev IsDistinct : List ℕ → Type 0
 IsDistinct xs = (i j : ℕ) → i < length xs → j < length xs → get_or xs i 0 ≡ get_or xs j 0 → i ≡ j
@@ -99,7 +99,6 @@ range_distinct : (n : ℕ) → IsDistinct (range_with_len 0 n)
 range_distinct n i j l m e =
     omega (arith, length-range_with_len 0 n, get_or-range_with_len 0 n i 0, get_or-range_with_len 0 n j 0)
 
-
 range_at : (n i : ℕ) → i < n → get_or (range_with_len 0 n) i 0 ≡ i
 range_at n i l = let z : 0 + i ≡ i = omega arith in get_or-range_with_len 0 n i 0 l ∙ z
 
@@ -136,10 +135,10 @@ alone_same supply setting ds distinct =
     let r = permuted xs range d (range_distinct n) (len ∙ sym (length-range_with_len 0 n)) in
     let I = r.0 in
     let to : (i : ℕ) → i < n → I.fun (supply i) ≡ i = λ i l.
-        ap I.fun (sym (at i l))
-        ∙ sym (get_or-map I.fun xs i 0 0 (omega arith))
-        ∙ ap (λ ys. get_or ys i 0) r.1
-        ∙ range_at n i l
+    ap I.fun (sym (at i l))
+    ∙ sym (get_or-map I.fun xs i 0 0 (omega arith))
+    ∙ ap (λ ys. get_or ys i 0) r.1
+    ∙ range_at n i l
     in
     carried I setting ds (limited n supply)
     ∙ ap (λ g. entries (trace_of setting ds eqb g)) (fun_ext (λ i. limited_as I n supply (λ i. i) to i))

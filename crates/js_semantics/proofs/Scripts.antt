@@ -4,15 +4,13 @@ use Rattle.world_kind.specs.declared.WorldKind.TheVariants.{Main}
 use Rattle.world_heap.specs.Views.{Bounds}
 use Rattle.world_log.specs.declared.entry.Level.TheVariants.{Log}
 use Rattle.js_tree.specs.declared.node.NodeId.{NodeId}
-use Rattle.js_tree.specs.declared.node.BinaryOperator.TheVariants.{Add}
 use Rattle.js_tree.specs.declared.node.Node as nodes
 use Rattle.js_tree.specs.declared.node.Node.TheVariants as kinds
 use Rattle.js_semantics.specs.declared.entry.Delivery.TheVariants.{Load}
 use Rattle.js_semantics.specs.declared.entry.Entry.{Entry}
 use Rattle.js_semantics.specs.declared.entry.Entry.TheVariants as entry
-use Rattle.js_semantics.specs.declared.entry.Product.TheVariants.{Console, Uncaught, Rest, Stopped}
-use Rattle.js_semantics.specs.declared.entry.Stop.TheVariants.{Fuel, Cells, Places, Units}
-use Rattle.js_semantics.specs.Run.{Arrival, Setting}
+use Rattle.js_semantics.specs.declared.entry.Product.TheVariants.{Console, Rest, Stopped}
+use Rattle.js_semantics.specs.declared.entry.Stop.TheVariants.{Fuel}
 use Rattle.js_semantics.specs.Alone.{alone}
 use Rattle.js_semantics.proofs.Opened.{opened}
 

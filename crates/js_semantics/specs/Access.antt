@@ -1,12 +1,12 @@
 -- Reading, writing and removing properties, with the functions that they call, and calls of functions (ECMA-262, 7.3.2:
 -- Get; 7.3.4: Set; 7.3.14: Call; 10.2.1: calls of closures; 10.2.11: their declarations).
-use Rattle.std.specs.Prelude.{ℕ, suc, ◌+◌, ◌-◌, List, [], ◌∷◌, ◌++◌, map, length, nat_lt, option_map, option_to_list, Option, Some, None, unwrap_or, Bool, true, false, if◌then◌else◌, slice_get, codes}
+use Rattle.std.specs.Prelude.{ℕ, ◌+◌, ◌-◌, List, [], ◌∷◌, ◌++◌, map, nat_lt, option_map, option_to_list, Option, Some, None, unwrap_or, Bool, true, false, if◌then◌else◌, slice_get}
 use Rattle.std.specs.Option.{option_and_then}
 use Rattle.world_heap.specs.declared.value.Value.{Value}
-use Rattle.world_heap.specs.declared.value.Value.TheVariants.{Undefined, Null, Bool as Boolean, Num, Str, Ref}
+use Rattle.world_heap.specs.declared.value.Value.TheVariants.{Undefined, Bool as Boolean, Ref}
 use Rattle.world_heap.specs.declared.value.Property.{Property}
 use Rattle.world_heap.specs.declared.cell.Cell.{Cell}
-use Rattle.world_heap.specs.declared.cell.Cell.TheVariants.{Array, Closure, Native as NativeCell, Far}
+use Rattle.world_heap.specs.declared.cell.Cell.TheVariants.{Array, Closure, Native as NativeCell}
 use Rattle.world_heap.specs.declared.builtin.BuiltIn.TheVariants.{ArrayPrototype, Global}
 use Rattle.js_tree.specs.declared.node.NodeId.{NodeId}
 use Rattle.js_tree.specs.declared.node.BindElement.{BindElement}
@@ -14,9 +14,9 @@ use Rattle.js_tree.specs.declared.node.Function.{Function}
 use Rattle.js_tree.specs.declared.node.Node.{Node}
 use Rattle.js_tree.specs.declared.node.Node.TheVariants as kinds
 use Rattle.js_semantics.specs.declared.fault.Fault.TheVariants.{NotAFunction, NotAnObject, ReadOnly, TooManyCalls, NotDefined, NotReady}
-use Rattle.js_semantics.specs.World.{World, Scope, built_in, cell_at, cell_of, with_cell}
+use Rattle.js_semantics.specs.World.{World, Scope, built_in, cell_of, with_cell}
 use Rattle.js_semantics.specs.Prog.{Prog, Cont, Outcome, Normal, Return, Break, Continue, Thrown, End, Enter, Read, Write, Bind, Native, Node as NodeRequest, bind, on_value, eval, alloc, change, count_places, give, throw, make_text}
-use Rattle.js_semantics.specs.Properties.{Got, Gives, Makes, CallsGetter, Absent, Change, Writes, CallsSetter, Refuses, Deletion, Leaves, Removes, Keeps, get_step, set_on, delete_step, define_step, holder, object_of}
+use Rattle.js_semantics.specs.Properties.{Got, Gives, Makes, CallsGetter, Absent, Change, Writes, CallsSetter, Refuses, Deletion, Leaves, Removes, Keeps, get_step, set_on, delete_step, define_step, holder}
 use Rattle.js_semantics.specs.Environments.{binding_of, bind_in, parameters_of, env_cell}
 
 -- the function of a node
@@ -152,9 +152,9 @@ module _ {L : Type 0} where
   -- The value of a name (ECMA-262, 9.4.2): of the innermost binding, else of the global object's property.
   unfoldable pub read_name : L → List ℕ → Prog L → (Value L → Prog L) → Prog L
   read_name env name absent k = Read (λ w. elim (binding_of env name w) [
-      | Some found ↦ binding_value found.1.value k
-      | None ↦ read_global (global_holder name w) name absent k
-      ])
+    | Some found ↦ binding_value found.1.value k
+    | None ↦ read_global (global_holder name w) name absent k
+  ])
 
   -- A binding that isn't ready can't be written, nor can a fixed one.
   abbrev pub write_binding : Option (Value L) → (fixed : Bool) → Prog L → Prog L
@@ -169,6 +169,6 @@ module _ {L : Type 0} where
   -- Writes the innermost binding of a name, else the global object's property (ECMA-262, 6.2.5.6).
   unfoldable pub write_name : L → List ℕ → Value L → Prog L → Prog L
   write_name env name v p = Read (λ w. elim (binding_of env name w) [
-      | Some found ↦ write_binding found.1.value found.1.fixed (change (bind_in found.0 name v) p)
-      | None ↦ write_global (global_holder name w) name v p
-      ])
+    | Some found ↦ write_binding found.1.value found.1.fixed (change (bind_in found.0 name v) p)
+    | None ↦ write_global (global_holder name w) name v p
+  ])

@@ -1,6 +1,5 @@
 -- How values are shown on the console (Console Standard, 2.1: printing is left to the implementation).
-use Rattle.std.specs.Prelude.{ℕ, zero, suc, ◌-◌, ◌==◌, ◌&&◌, ◌||◌, List, [], ◌∷◌, ◌++◌, length, take, map, Option, Some, None, Bool, true, false, not, if◌then◌else◌, nat_eq, nat_lt, nat_le, codes, decimal}
-use Rattle.std.specs.List.{flat_map}
+use Rattle.std.specs.Prelude.{ℕ, zero, suc, ◌==◌, List, [], ◌∷◌, ◌++◌, length, take, Option, Some, None, Bool, true, false, if◌then◌else◌, codes, decimal}
 use Rattle.std.specs.Fmt.{signed_decimal}
 use Rattle.wl_text.specs.Text.{quoted}
 use Rattle.world_heap.specs.declared.value.Value.{Value}

@@ -147,9 +147,9 @@ module _ {L : Type 0} where
   abbrev pub is_above : ℕ → L → L → World L → Bool
   is_above zero target loc w = false
   is_above (suc n) target loc w = elim (option_and_then proto_of (cell_at loc w)) [
-      | Some proto ↦ if w.same proto target then true else is_above n target proto w
-      | None ↦ false
-      ]
+    | Some proto ↦ if w.same proto target then true else is_above n target proto w
+    | None ↦ false
+  ]
 
   abbrev pub inherits : Option L → L → World L → Bool
   inherits None target w = false
@@ -158,9 +158,9 @@ module _ {L : Type 0} where
   -- 13.10.2 InstanceofOperator: the right side is callable, and its `prototype` an object
   abbrev pub instance_of : Value L → Value L → (Value L → Prog L) → Prog L
   instance_of x y k = Read (λ w. if is_callable (cell_of y w) then get y (codes "prototype") (λ p. Read (λ v. elim (object_of p v) [
-      | Some target ↦ k (Boolean (inherits (object_of x v) target v))
-      | None ↦ throw NotAnObject
-      ])) else throw WrongOperand)
+    | Some target ↦ k (Boolean (inherits (object_of x v) target v))
+    | None ↦ throw NotAnObject
+  ])) else throw WrongOperand)
 
   abbrev pub has_key : Option (List ℕ) → Option L → World L → (Value L → Prog L) → Prog L
   has_key (Some key) (Some loc) w k = k (Boolean (is_some (holder loc key w)))

@@ -2,7 +2,7 @@
 -- An array is walked as it stands at each turn; what else can be walked is put into a new array first.
 use Rattle.std.specs.Prelude.{ℕ, ◌&&◌, nat_le, List, [], ◌∷◌, ◌++◌, Option, Some, None, Bool, true, false, slice_get}
 use Rattle.world_heap.specs.declared.value.Value.{Value}
-use Rattle.world_heap.specs.declared.value.Value.TheVariants.{Undefined, Null, Bool as Boolean, Num, Str, Ref}
+use Rattle.world_heap.specs.declared.value.Value.TheVariants.{Str, Ref}
 use Rattle.world_heap.specs.declared.cell.MapEntry.{MapEntry}
 use Rattle.world_heap.specs.declared.cell.Cell.{Cell}
 use Rattle.world_heap.specs.declared.cell.Cell.TheVariants.{Array, Map, Set}
@@ -23,9 +23,9 @@ abbrev pub points_of : List ℕ → List (List ℕ)
 points_of [] = []
 points_of (unit ∷ []) = (unit ∷ []) ∷ []
 points_of (high ∷ low ∷ rest) = elim (is_pair high low) [
-    | true ↦ (high ∷ low ∷ []) ∷ points_of rest
-    | false ↦ (high ∷ []) ∷ points_of (low ∷ rest)
-    ]
+  | true ↦ (high ∷ low ∷ []) ∷ points_of rest
+  | false ↦ (high ∷ []) ∷ points_of (low ∷ rest)
+]
 
 module _ {L : Type 0} where
   -- the items of an array

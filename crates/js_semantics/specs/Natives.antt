@@ -1,6 +1,5 @@
 -- The built-in functions (ECMA-262, 20.5.1: errors; Console Standard, 1.1: logging) and what their calls do.
-use Rattle.std.specs.Prelude.{ℕ, ◌-◌, ◌==◌, ◌&&◌, ◌||◌, List, [], ◌∷◌, ◌++◌, length, take, Option, Some, None, Bool, true, false, if◌then◌else◌, slice_get, option_map, codes}
-use Rattle.std.specs.Option.{option_map_or}
+use Rattle.std.specs.Prelude.{ℕ, ◌||◌, List, [], ◌∷◌, ◌++◌, length, take, Option, Some, None, Bool, true, false, if◌then◌else◌, slice_get, codes}
 use Rattle.parcel.specs.declared.parcel.ErrorKind.{ErrorKind}
 use Rattle.parcel.specs.declared.parcel.ErrorKind.TheVariants as errors
 use Rattle.world_log.specs.declared.entry.Level.{Level}
@@ -8,7 +7,7 @@ use Rattle.world_log.specs.declared.entry.Level.TheVariants as levels
 use Rattle.world_kind.specs.declared.WorldKind.{WorldKind}
 use Rattle.world_kind.specs.declared.WorldKind.TheVariants.{Main, Preload, Page}
 use Rattle.world_heap.specs.declared.value.Value.{Value}
-use Rattle.world_heap.specs.declared.value.Value.TheVariants.{Undefined, Null, Bool as Boolean, Num, Str, Ref}
+use Rattle.world_heap.specs.declared.value.Value.TheVariants.{Undefined, Str, Ref}
 use Rattle.js_semantics.specs.declared.native.Native.{Native}
 use Rattle.js_semantics.specs.declared.native.Native.TheVariants.{Console, Error, Require}
 use Rattle.js_semantics.specs.declared.fault.Fault.TheVariants.{NotAFunction, WrongArgument}

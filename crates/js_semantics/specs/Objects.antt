@@ -5,7 +5,7 @@ use Rattle.std.specs.Option.{option_or, option_map_or}
 use Rattle.world_heap.specs.declared.value.Value.{Value}
 use Rattle.world_heap.specs.declared.value.Value.TheVariants.{Undefined, Ref}
 use Rattle.world_heap.specs.declared.value.Property.{Property}
-use Rattle.world_heap.specs.declared.value.Property.TheVariants.{Data, Access}
+use Rattle.world_heap.specs.declared.value.Property.TheVariants.{Data}
 use Rattle.world_heap.specs.declared.cell.Body.{Body}
 use Rattle.world_heap.specs.declared.cell.Cell.{Cell}
 use Rattle.world_heap.specs.declared.cell.Cell.TheVariants.{Object, Closure, Native as NativeCell}

@@ -1,11 +1,11 @@
 -- Operators over whole numbers, texts and booleans (ECMA-262, 13.5 to 13.12; 6.1.6.1: Number; 7.1.2: ToBoolean; 7.2.15:
 -- IsStrictlyEqual). A result that is no whole number in range is an error, and so is an operand of another type.
-use Rattle.std.specs.Prelude.{ℕ, zero, suc, ◌+◌, ◌-◌, ◌*◌, ◌/◌, ◌%◌, ◌^◌, ◌==◌, ◌&&◌, List, [], ◌∷◌, ◌++◌, length, ℤ, pos, negsuc, ◌+ℤ◌, ◌-ℤ◌, ◌*ℤ◌, neg_ℤ, int_lt, int_le, int_div, int_rem, unsigned_abs, bit_and, bit_or, bit_xor, nat_eq, nat_lt, Option, Some, None, Bool, true, false, not, if◌then◌else◌, codes}
+use Rattle.std.specs.Prelude.{ℕ, zero, suc, ◌-◌, ◌*◌, ◌/◌, ◌%◌, ◌^◌, ◌==◌, ◌&&◌, List, [], ◌∷◌, ◌++◌, length, ℤ, pos, negsuc, ◌+ℤ◌, ◌-ℤ◌, ◌*ℤ◌, neg_ℤ, int_lt, int_le, int_div, int_rem, unsigned_abs, bit_and, bit_or, bit_xor, nat_lt, Option, Some, None, Bool, true, false, not, if◌then◌else◌, codes}
 use Rattle.std.specs.Fmt.{signed_decimal}
 use Rattle.world_heap.specs.declared.value.Value.{Value}
 use Rattle.world_heap.specs.declared.value.Value.TheVariants.{Undefined, Null, Bool as Boolean, Num, Str, Ref}
 use Rattle.js_tree.specs.declared.node.BinaryOperator.{BinaryOperator}
-use Rattle.js_tree.specs.declared.node.BinaryOperator.TheVariants.{Add, Subtract, Multiply, Divide, Remainder, Less, Greater, LessOrEqual, GreaterOrEqual, InstanceOf, In, StrictEqual, StrictNotEqual, BitAnd, BitOr, BitXor, ShiftLeft, ShiftRight, ShiftRightUnsigned}
+use Rattle.js_tree.specs.declared.node.BinaryOperator.TheVariants.{Add, Subtract, Multiply, Divide, Remainder, Less, Greater, LessOrEqual, GreaterOrEqual, BitAnd, BitOr, BitXor, ShiftLeft, ShiftRight, ShiftRightUnsigned}
 use Rattle.js_tree.specs.declared.node.UnaryOperator.{UnaryOperator}
 use Rattle.js_tree.specs.declared.node.UnaryOperator.TheVariants.{Not, BitNot, Plus, Minus, Void}
 use Rattle.js_semantics.specs.declared.fault.Fault.{Fault}

@@ -1,8 +1,8 @@
 -- Properties of objects, as steps over the heap (ECMA-262, 10.1: ordinary objects; 10.4.2: arrays; 7.3: operations).
 --     own, holder      the own property;  the first one on the chain of prototypes, with its object
 --     get_step, set_step, define_step, delete_step
-use Rattle.std.specs.Prelude.{ℕ, zero, suc, ◌+◌, ◌-◌, ◌==◌, List, [], ◌∷◌, ◌++◌, length, take, map, ℤ, pos, negsuc, Option, Some, None, Bool, true, false, not, if◌then◌else◌, nat_eq, nat_lt, nat_le, slice_get, slice_set, codes, decimal, insert, position, option_map, is_some}
-use Rattle.std.specs.Option.{option_and_then, option_map_or}
+use Rattle.std.specs.Prelude.{ℕ, zero, suc, ◌==◌, List, [], ◌∷◌, ◌++◌, length, take, map, pos, negsuc, Option, Some, None, Bool, true, false, not, if◌then◌else◌, nat_eq, nat_lt, nat_le, slice_get, slice_set, codes, option_map, is_some}
+use Rattle.std.specs.Option.{option_and_then}
 use Rattle.std.specs.Cmp.Lexicographic.{pointwise}
 use Rattle.wl_text.specs.Number.{index_of}
 use Rattle.world_heap.specs.declared.value.Value.{Value}
@@ -18,7 +18,7 @@ use Rattle.world_heap.specs.Heaps.{proto_of}
 use Rattle.js_semantics.specs.Bodies.{body_of, with_body}
 use Rattle.js_semantics.specs.declared.fault.Fault.{Fault}
 use Rattle.js_semantics.specs.declared.fault.Fault.TheVariants.{NotAnObject, ReadOnly, NoHoles}
-use Rattle.js_semantics.specs.World.{World, Heap, built_in, cell_at}
+use Rattle.js_semantics.specs.World.{World, built_in, cell_at}
 
 -- What reading a property comes to: its value, a unit of a string, a function to be called, or nothing.
 pub data Got (L : Type 0) : Type 0 where

@@ -1,12 +1,10 @@
 -- The built-in objects of a world (ECMA-262, 9.3.2: the intrinsic objects of a realm; 19: the global object; 20.5: errors).
 -- They stand at the first locations, before all cells that the script makes, and aren't counted.
-use Rattle.std.specs.Prelude.{ℕ, ◌+◌, List, [], ◌∷◌, ◌++◌, length, slice_get, Option, Some, None, option_map, option_to_list, true, codes}
-use Rattle.std.specs.List.{flat_map}
+use Rattle.std.specs.Prelude.{ℕ, ◌+◌, List, [], ◌∷◌, ◌++◌, slice_get, Option, None, option_map, option_to_list, true, codes}
 use Rattle.world_kind.specs.declared.WorldKind.{WorldKind}
 use Rattle.world_kind.specs.declared.WorldKind.TheVariants.{Main, Preload, Page}
 use Rattle.parcel.specs.declared.parcel.ErrorKind.{ErrorKind}
 use Rattle.parcel.specs.declared.parcel.ErrorKind.TheVariants as errors
-use Rattle.world_heap.specs.declared.value.Value.{Value}
 use Rattle.world_heap.specs.declared.value.Value.TheVariants.{Undefined, Str, Ref}
 use Rattle.world_heap.specs.declared.value.Property.{Property}
 use Rattle.world_heap.specs.declared.cell.Body.{Body}
@@ -104,9 +102,9 @@ module _ {L : Type 0} (supply : ℕ → Option L) where
       (Object (record { proto = None; properties = []; extensible = true }) ∷ error_prototype (place_of ObjectPrototype) errors.Error ∷ [])
       ++ (prototypes_of (errors.EvalError ∷ errors.RangeError ∷ errors.ReferenceError ∷ errors.SyntaxError ∷ errors.TypeError ∷ errors.URIError ∷ [])
       ++ ((bare_object ∷ bare_object ∷ bare_object ∷ bare_object ∷ bare_object ∷ bare_object ∷ bare_object ∷ bare_object
-          ∷ object_with (place_of ObjectPrototype) (global_members kind)
-          ∷ object_with (place_of ObjectPrototype) (members_from natives_place (codes "log" ∷ codes "info" ∷ codes "warn" ∷ codes "error" ∷ []))
-          ∷ native_with 0 [] ∷ native_with 1 [] ∷ native_with 2 [] ∷ native_with 3 [] ∷ [])
+      ∷ object_with (place_of ObjectPrototype) (global_members kind)
+      ∷ object_with (place_of ObjectPrototype) (members_from natives_place (codes "log" ∷ codes "info" ∷ codes "warn" ∷ codes "error" ∷ []))
+      ∷ native_with 0 [] ∷ native_with 1 [] ∷ native_with 2 [] ∷ native_with 3 [] ∷ [])
       ++ (error_functions error_kinds ++ (native_with 11 [] ∷ module_cells kind))))
 
   -- cells at the locations from a place on

@@ -1,8 +1,7 @@
 -- What a world makes of a list of deliveries (ECMA-262, 16.1.6: ScriptEvaluation).
-use Rattle.std.specs.Prelude.{◌≡◌, ◌<◌, ◌+◌, ◌-◌, nat_eq, ℕ, zero, suc, List, [], ◌∷◌, length, Option, Some, None, Bool, true, false, not, if◌then◌else◌}
+use Rattle.std.specs.Prelude.{◌-◌, ℕ, zero, suc, List, [], ◌∷◌, length, Option, Bool, true, false, not, if◌then◌else◌}
 use Rattle.world_kind.specs.declared.WorldKind.{WorldKind}
 use Rattle.world_heap.specs.Views.{Bounds}
-use Rattle.js_tree.specs.declared.node.NodeId.{NodeId}
 use Rattle.js_tree.specs.declared.node.Node as nodes
 use Rattle.js_semantics.specs.declared.entry.Delivery.{Delivery}
 use Rattle.js_semantics.specs.declared.entry.Delivery.TheVariants.{Load}
@@ -10,13 +9,12 @@ use Rattle.js_semantics.specs.declared.entry.Entry.{Entry}
 use Rattle.js_semantics.specs.declared.entry.Entry.TheVariants as entry
 use Rattle.js_semantics.specs.declared.entry.Mode.{Mode}
 use Rattle.js_semantics.specs.declared.entry.Mode.TheVariants.{Idle, Crossing}
-use Rattle.js_semantics.specs.declared.entry.Product.{Product}
 use Rattle.js_semantics.specs.declared.entry.Product.TheVariants.{Uncaught, Rest, Stopped}
 use Rattle.js_semantics.specs.declared.entry.Stop.TheVariants.{Fuel, Places}
-use Rattle.js_semantics.specs.World.{World, limited}
-use Rattle.js_semantics.specs.Prog.{Prog, Cont, Outcome, Normal, Return, Break, Continue, Thrown, End, Over, Enter, Make, Read, Write, Place, Await, Request, Script, bind, change, count_units}
+use Rattle.js_semantics.specs.World.{World}
+use Rattle.js_semantics.specs.Prog.{Prog, Cont, Outcome, Thrown, End, Over, Enter, Make, Read, Write, Place, Await, Request, Script, bind, count_units}
 use Rattle.js_semantics.specs.Display.{line_of}
-use Rattle.js_semantics.specs.Realm.{realm, realm_length}
+use Rattle.js_semantics.specs.Realm.{realm}
 use Rattle.js_semantics.specs.Rows.{row}
 
 -- A delivery, and whether it is the first to the world in its task: then it fills the steps.

@@ -3,10 +3,10 @@ use Rattle.std.specs.Prelude.{ℕ, ◌+◌, List, [], ◌∷◌, map, length, na
 use Rattle.std.specs.List.{flat_map}
 use Rattle.std.specs.Option.{option_map_or}
 use Rattle.world_heap.specs.declared.value.Value.{Value}
-use Rattle.world_heap.specs.declared.value.Value.TheVariants.{Undefined, Null, Bool as Boolean, Num, Str, Ref}
+use Rattle.world_heap.specs.declared.value.Value.TheVariants.{Undefined, Null, Ref}
 use Rattle.world_heap.specs.declared.cell.Binding.{Binding}
 use Rattle.world_heap.specs.declared.cell.Cell.{Cell}
-use Rattle.world_heap.specs.declared.cell.Cell.TheVariants.{Array, Env}
+use Rattle.world_heap.specs.declared.cell.Cell.TheVariants.{Array}
 use Rattle.world_heap.specs.declared.builtin.BuiltIn.TheVariants.{Global}
 use Rattle.js_tree.specs.declared.node.NodeId.{NodeId}
 use Rattle.js_tree.specs.declared.node.Declarator.{Declarator}
@@ -15,8 +15,8 @@ use Rattle.js_tree.specs.declared.node.BindProperty.{BindProperty}
 use Rattle.js_tree.specs.declared.node.Node.{Node}
 use Rattle.js_tree.specs.declared.node.Node.TheVariants as kinds
 use Rattle.js_semantics.specs.declared.fault.Fault.TheVariants.{NotAnObject, NotIterable}
-use Rattle.js_semantics.specs.World.{World, Scope, built_in, cell_at, cell_of}
-use Rattle.js_semantics.specs.Prog.{Prog, Cont, Outcome, Normal, Return, Break, Continue, Thrown, End, Enter, Read, Node as NodeRequest, While, DoWhile, For, ForOf, bind, on_value, eval, alloc, change, done, give, throw}
+use Rattle.js_semantics.specs.World.{World, Scope, built_in, cell_at}
+use Rattle.js_semantics.specs.Prog.{Prog, Cont, Outcome, Normal, Return, Break, Continue, Thrown, End, Enter, Read, Node as NodeRequest, While, DoWhile, For, ForOf, bind, on_value, eval, alloc, change, done, throw}
 use Rattle.js_semantics.specs.Environments.{names_of, declared_in, unready, env_cell, bind_in, fill_name, bindings_at}
 use Rattle.js_semantics.specs.Operators.{is_truthy}
 use Rattle.js_semantics.specs.Access.{or_default, bind_value, get}
@@ -207,9 +207,9 @@ module _ {L : Type 0} where
   -- A turn for the item at a place, in an environment of its own, where the array has such an item.
   abbrev pub of_turn : Bool → NodeId → NodeId → L → ℕ → Scope L → Prog L
   of_turn constant pattern body array place around = Read (λ w. elim (slice_get (items_at (cell_at array w)) place) [
-      | Some item ↦ alloc (env_cell (Some around.env) (map (unready constant) (names_of w.tree pattern))) (λ env. Enter (ForOf constant pattern body array place item (inside env around) around) (λ o. End o))
-      | None ↦ done
-      ])
+    | Some item ↦ alloc (env_cell (Some around.env) (map (unready constant) (names_of w.tree pattern))) (λ env. Enter (ForOf constant pattern body array place item (inside env around) around) (λ o. End o))
+    | None ↦ done
+  ])
 
   -- what follows the pattern: the body, and the next item
   abbrev pub of_bound : Bool → NodeId → NodeId → L → ℕ → (turn around : Scope L) → Prog L

@@ -1,5 +1,5 @@
 -- What a script reads and changes as it runs: its realm and heap (ECMA-262, 9.3), and what a world may use and has used.
-use Rattle.std.specs.Prelude.{◌≡◌, ℕ, ◌<◌, List, Option, Some, None, Bool, nat_lt, if◌then◌else◌, slice_get, option_map}
+use Rattle.std.specs.Prelude.{ℕ, List, Option, Some, None, Bool, nat_lt, if◌then◌else◌, slice_get, option_map}
 use Rattle.world_kind.specs.declared.WorldKind.{WorldKind}
 use Rattle.world_heap.specs.declared.cell.Cell.{Cell}
 use Rattle.world_heap.specs.declared.value.Value.{Value}
