@@ -1,4 +1,9 @@
 mod Opened
-mod Scripts
+mod Worlds
+mod FirstScripts
+mod ExpressionScripts
+mod FunctionScripts
+mod StatementScripts
+mod FaultScripts
 pub mod Relocating
 pub mod Continuing
