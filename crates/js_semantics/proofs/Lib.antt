@@ -5,5 +5,8 @@ mod ExpressionScripts
 mod FunctionScripts
 mod StatementScripts
 mod FaultScripts
+mod RealmScripts
 pub mod Relocating
 pub mod Continuing
+pub mod Programs
+pub mod Stepwise

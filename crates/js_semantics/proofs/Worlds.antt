@@ -1,6 +1,7 @@
--- Main worlds with given limits, and what they make.
-use Rattle.std.specs.Prelude.{ℕ, ◌-◌, List, [], ◌∷◌, codes, true}
-use Rattle.world_kind.specs.declared.WorldKind.TheVariants.{Main}
+-- Worlds with given limits, and what they make.
+use Rattle.std.specs.Prelude.{ℕ, ◌-◌, List, [], ◌∷◌, true}
+use Rattle.world_kind.specs.declared.WorldKind.{WorldKind}
+use Rattle.world_log.specs.declared.entry.Level.{Level}
 use Rattle.world_log.specs.declared.entry.Level.TheVariants.{Log}
 use Rattle.js_tree.specs.declared.node.NodeId.{NodeId}
 use Rattle.js_tree.specs.declared.node.Node as nodes
@@ -15,19 +16,22 @@ use Rattle.js_semantics.specs.Alone.{alone}
 abbrev pub n : ℕ → NodeId
 n number = record { 0 = number }
 
--- what main makes of its script with so many steps, cells, places and units, after the delivery
+-- what a world makes of its script with so many steps, cells, places and units, after the delivery
 abbrev pub behind_load : List Entry → List Entry
 behind_load [] = []
 behind_load (delivery ∷ products) = products
 
-abbrev pub made : (steps cells places units : ℕ) → List nodes.Node → List Entry
-made steps cells places units tree =
-    behind_load (alone (record { kind = Main; limits = record { steps = steps; cells = cells; places = places; units = units; depth = 5 }; tree = tree }) (record { fresh = true; what = Load } ∷ []))
+abbrev pub made : (kind : WorldKind) (steps cells places units : ℕ) → List nodes.Node → List Entry
+made kind steps cells places units tree =
+    behind_load (alone (record { kind = kind; limits = record { steps = steps; cells = cells; places = places; units = units; depth = 5 }; tree = tree }) (record { fresh = true; what = Load } ∷ []))
 
 -- what it makes at these limits, and with one step, cell, place or unit less
-abbrev pub at_limits : (steps cells places units : ℕ) → List nodes.Node → List (List Entry)
-at_limits steps cells places units tree =
-    made steps cells places units tree ∷ made (steps - 1) cells places units tree ∷ made steps (cells - 1) places units tree ∷ made steps cells (places - 1) units tree ∷ made steps cells places (units - 1) tree ∷ []
+abbrev pub at_limits : (kind : WorldKind) (steps cells places units : ℕ) → List nodes.Node → List (List Entry)
+at_limits kind steps cells places units tree =
+    made kind steps cells places units tree ∷ made kind (steps - 1) cells places units tree ∷ made kind steps (cells - 1) places units tree ∷ made kind steps cells (places - 1) units tree ∷ made kind steps cells places (units - 1) tree ∷ []
+
+abbrev pub leveled : Level → List ℕ → Entry
+leveled level text = entry.Product (Console level text)
 
 abbrev pub logged : List ℕ → Entry
 logged text = entry.Product (Console Log text)

@@ -1,11 +1,12 @@
 -- The transcript that one world makes by itself of its script and its deliveries, and the laws of it.
-use Rattle.std.specs.Prelude.{◌≡◌, ◌<◌, ◌+◌, ℕ, List, ◌++◌, Option, Bool, nat_eq}
+use Rattle.std.specs.Prelude.{◌≡◌, ◌<◌, ◌+◌, ℕ, suc, List, ◌++◌, Option, Bool, nat_eq}
 use Rattle.js_semantics.specs.declared.entry.Entry.{Entry}
 use Rattle.js_semantics.specs.declared.entry.Mode.TheVariants.{Idle}
-use Rattle.js_semantics.specs.World.{limited}
-use Rattle.js_semantics.specs.Prog.{Over, Await}
+use Rattle.js_semantics.specs.World.{World, limited}
+use Rattle.js_semantics.specs.Prog.{Over, Await, Enter, Request, Cont}
 use Rattle.js_semantics.specs.Realm.{realm_length}
-use Rattle.js_semantics.specs.Run.{Arrival, Trace, Setting, entries, run, first_world, first_budget}
+use Rattle.js_semantics.specs.Rows.{row}
+use Rattle.js_semantics.specs.Run.{and_then, Arrival, Trace, Setting, entries, run, first_world, first_budget}
 
 -- what comes of a world, over any type of locations
 unfoldable pub trace_of : {L : Type 0} → Setting → List Arrival → (L → L → Bool) → (ℕ → Option L) → Trace L
@@ -42,3 +43,8 @@ IsContinued = (setting : Setting) (ds more : List Arrival) → Begins (alone set
 -- There is one transcript for each setting and list of deliveries, whatever distinct locations the cells get.
 unfoldable pub IsDetermined : Type 0
 IsDetermined = (supply other : ℕ → ℕ) (setting : Setting) (ds : List Arrival) → IsDistinctSupply (cells_of setting) supply → IsDistinctSupply (cells_of setting) other → entries (alone_by supply setting ds) ≡ entries (alone_by other setting ds)
+
+-- A request is evaluated by recursion: what comes of it is what comes of its row with one step less, and then of what is
+-- done with the outcome, in the world and with the steps, places and deliveries that the row has left.
+unfoldable pub IsRecursive : Type 0
+IsRecursive = (ds : List Arrival) (steps places : ℕ) (w : World ℕ) (r : Request ℕ) (k : Cont ℕ) → run ds (record { steps = suc steps; places = places }) w (Enter r k) ≡ and_then (run ds (record { steps = steps; places = places }) w (row r)) (λ o v b later. run later b v (k o))

@@ -147,3 +147,9 @@ module _ {L : Type 0} where
     supply = supply;
     same = same;
   }
+
+  -- a trace, and then what is done with the outcome, the world and what is left
+  abbrev pub and_then : Trace L → (Outcome L → World L → Budget → List Arrival → Trace L) → Trace L
+  and_then (Then e t) go = Then e (and_then t go)
+  and_then (Ended o w b ds) go = go o w b ds
+  and_then (Cut w) go = Cut w

@@ -1,4 +1,8 @@
 //! The errors that the language itself throws.
+ghost use Rattle.std.specs.Prelude.{◌≡◌};
+ghost use Rattle.js_semantics.specs.Faults.{kind_of, message_of};
+
+use parcel::ErrorKind;
 
 /// Why a row throws an error.
 #[derive(Debug, Drop, Clone, Copy, PartialEq, Eq)]
@@ -29,4 +33,46 @@ pub enum Fault {
     NotReady,
     /// A string would be longer than a string may be.
     TooLong,
+}
+
+impl Fault {
+    /// The kind of the error that is thrown (ECMA-262, 20.5.5).
+    pub fn kind(self) -> ErrorKind
+        ensures { result ≡ kind_of self }
+    {
+        match self {
+            Fault::NotAFunction
+            | Fault::NotAnObject
+            | Fault::ReadOnly
+            | Fault::WrongArgument
+            | Fault::NotAConstructor
+            | Fault::NotIterable
+            | Fault::WrongOperand => ErrorKind::TypeError,
+            Fault::NotAWholeNumber | Fault::TooManyCalls | Fault::NoHoles | Fault::TooLong => {
+                ErrorKind::RangeError
+            }
+            Fault::NotDefined | Fault::NotReady => ErrorKind::ReferenceError,
+        }
+    }
+
+    /// The message of the error.
+    pub fn message(self) -> &'static str
+        ensures { result.now ≡ message_of self }
+    {
+        match self {
+            Fault::NotAFunction => "not a function",
+            Fault::NotAnObject => "not an object",
+            Fault::ReadOnly => "read only",
+            Fault::WrongArgument => "wrong argument",
+            Fault::NotAConstructor => "not a constructor",
+            Fault::NotIterable => "not iterable",
+            Fault::WrongOperand => "wrong operand",
+            Fault::NotAWholeNumber => "not a whole number",
+            Fault::TooManyCalls => "too many calls",
+            Fault::NoHoles => "no holes",
+            Fault::NotDefined => "not defined",
+            Fault::NotReady => "not ready",
+            Fault::TooLong => "too long",
+        }
+    }
 }

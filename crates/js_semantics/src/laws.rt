@@ -1,5 +1,5 @@
 //! The laws of transcripts, as the contracts of functions that do nothing.
-ghost use Rattle.js_semantics.specs.Alone.{IsContinued, IsDetermined, IsRenamed};
+ghost use Rattle.js_semantics.specs.Alone.{IsContinued, IsDetermined, IsRecursive, IsRenamed};
 
 /// A world's transcript is the same for every supply of distinct locations: of its script and its deliveries it makes the
 /// same entries as with the locations 0, 1, 2, whatever distinct locations its cells get.
@@ -16,4 +16,10 @@ pub fn determined()
 /// The transcript of a longer list of deliveries begins with the transcript of the shorter one.
 pub fn continued()
     ensures { IsContinued }
+{}
+
+/// Evaluation is by recursion: what a world makes where a node is entered with a step left is what the node's row makes
+/// with one step less, and then what follows the outcome.
+pub fn recursive()
+    ensures { IsRecursive }
 {}
