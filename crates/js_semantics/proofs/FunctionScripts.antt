@@ -1,13 +1,16 @@
 -- Scripts of objects, arrays, functions, calls and patterns.
 -- Each is run with the least steps, cells, places and units that it needs, and with one less of each in turn.
-use Rattle.std.specs.Prelude.{◌≡◌, List, [], ◌∷◌, pos, refl, codes, Some, None}
-use Rattle.world_kind.specs.declared.WorldKind.TheVariants.{Main}
+use Rattle.std.specs.Prelude.{◌≡◌, ℕ, List, [], ◌∷◌, pos, refl, codes, true, false, Option, Some, None}
+use Rattle.world_kind.specs.declared.WorldKind.TheVariants.{Main, Preload, Page}
+use Rattle.world_log.specs.declared.entry.Level.TheVariants as levels
 use Rattle.js_tree.specs.declared.node.Node as nodes
 use Rattle.js_tree.specs.declared.node.Node.TheVariants as kinds
 use Rattle.js_tree.specs.declared.node.PropertyKey.TheVariants.{Written, Computed}
 use Rattle.js_tree.specs.declared.node.BinaryOperator.TheVariants as operators
+use Rattle.js_tree.specs.declared.node.UnaryOperator.TheVariants as unaries
+use Rattle.js_tree.specs.declared.node.UpdateOperator.TheVariants as updates
 use Rattle.js_semantics.proofs.Opened.{opened}
-use Rattle.js_semantics.proofs.Worlds.{n, at_limits, logged, thrown, rest, fuel, cells, places, units}
+use Rattle.js_semantics.proofs.Worlds.{n, made, at_limits, leveled, logged, thrown, rest, fuel, cells, places, units}
 
 -- console.log([1, [2, {a: 3}], "s"], {k: 1, 2: 3, "x y": [], f: () => 1});
 abbrev literals : List nodes.Node
@@ -128,6 +131,14 @@ cycle = kinds.BindName (codes "a") ∷ kinds.Num (pos 1) ∷ kinds.ArrayLit (n 1
 cycle_runs : at_limits Main 39 9 21 68 cycle ≡ (logged (codes "[1, [Circular]] {p: {up: [Circular]}, q: [[Array], [], {}, [Array]]}") ∷ rest ∷ []) ∷ (fuel ∷ []) ∷ (cells ∷ []) ∷ (places ∷ []) ∷ (units ∷ []) ∷ []
 unfolding opened
 cycle_runs = refl
+
+-- const a = [0, 0, 0, 0, 0, 0, 0, 0, 0, 0]; const b = [...a, ...a, ...a, ...a, ...a]; const c = [...b, ...b, ...b, ...b]; console.log(c.length, [...c, 1], [c, 2]);
+abbrev long_lists : List nodes.Node
+long_lists = kinds.BindName (codes "a") ∷ kinds.Num (pos 0) ∷ kinds.Num (pos 0) ∷ kinds.Num (pos 0) ∷ kinds.Num (pos 0) ∷ kinds.Num (pos 0) ∷ kinds.Num (pos 0) ∷ kinds.Num (pos 0) ∷ kinds.Num (pos 0) ∷ kinds.Num (pos 0) ∷ kinds.Num (pos 0) ∷ kinds.ArrayLit (n 1 ∷ n 2 ∷ n 3 ∷ n 4 ∷ n 5 ∷ n 6 ∷ n 7 ∷ n 8 ∷ n 9 ∷ n 10 ∷ []) ∷ kinds.Const (record { bind = n 0; value = (Some (n 11)) } ∷ []) ∷ kinds.BindName (codes "b") ∷ kinds.Name (codes "a") ∷ kinds.Spread (n 14) ∷ kinds.Name (codes "a") ∷ kinds.Spread (n 16) ∷ kinds.Name (codes "a") ∷ kinds.Spread (n 18) ∷ kinds.Name (codes "a") ∷ kinds.Spread (n 20) ∷ kinds.Name (codes "a") ∷ kinds.Spread (n 22) ∷ kinds.ArrayLit (n 15 ∷ n 17 ∷ n 19 ∷ n 21 ∷ n 23 ∷ []) ∷ kinds.Const (record { bind = n 13; value = (Some (n 24)) } ∷ []) ∷ kinds.BindName (codes "c") ∷ kinds.Name (codes "b") ∷ kinds.Spread (n 27) ∷ kinds.Name (codes "b") ∷ kinds.Spread (n 29) ∷ kinds.Name (codes "b") ∷ kinds.Spread (n 31) ∷ kinds.Name (codes "b") ∷ kinds.Spread (n 33) ∷ kinds.ArrayLit (n 28 ∷ n 30 ∷ n 32 ∷ n 34 ∷ []) ∷ kinds.Const (record { bind = n 26; value = (Some (n 35)) } ∷ []) ∷ kinds.Name (codes "console") ∷ kinds.Dot (n 37) (codes "log") ∷ kinds.Name (codes "c") ∷ kinds.Dot (n 39) (codes "length") ∷ kinds.Name (codes "c") ∷ kinds.Spread (n 41) ∷ kinds.Num (pos 1) ∷ kinds.ArrayLit (n 42 ∷ n 43 ∷ []) ∷ kinds.Name (codes "c") ∷ kinds.Num (pos 2) ∷ kinds.ArrayLit (n 45 ∷ n 46 ∷ []) ∷ kinds.Call (n 38) (n 40 ∷ n 44 ∷ n 47 ∷ []) ∷ kinds.ExprStmt (n 48) ∷ kinds.Script (n 12 ∷ n 25 ∷ n 36 ∷ n 49 ∷ []) ∷ []
+
+long_lists_runs : at_limits Main 52 6 472 1219 long_lists ≡ (logged (codes "200 [0, 0, 0, 0, 0, 0, 0, 0, 0, 0, 0, 0, 0, 0, 0, 0, 0, 0, 0, 0, 0, 0, 0, 0, 0, 0, 0, 0, 0, 0, 0, 0, 0, 0, 0, 0, 0, 0, 0, 0, 0, 0, 0, 0, 0, 0, 0, 0, 0, 0, 0, 0, 0, 0, 0, 0, 0, 0, 0, 0, 0, 0, 0, 0, 0, 0, 0, 0, 0, 0, 0, 0, 0, 0, 0, 0, 0, 0, 0, 0, 0, 0, 0, 0, 0, 0, 0, 0, 0, 0, 0, 0, 0, 0, 0, 0, 0, 0, 0, 0, 0, 0, 0, 0, 0, 0, 0, 0, 0, 0, 0, 0, 0, 0, 0, 0, 0, 0, 0, 0, 0, 0, 0, 0, 0, 0, 0, 0, 0, 0, 0, 0, 0, 0, 0, 0, 0, 0, 0, 0, 0, 0, 0, 0, 0, 0, 0, 0, 0, 0, 0, 0, 0, 0, 0, 0, 0, 0, 0, 0, 0, 0, 0, 0, 0, 0, 0, 0, 0, 0, 0, 0, 0, 0, 0, 0, 0, 0, 0, 0, 0, 0, 0, 0, 0, 0, 0, 0, 0, 0, 0, 0, 0, 0, 0, 0, 0, 0, 0, 0, ...] [[0, 0, 0, 0, 0, 0, 0, 0, 0, 0, 0, 0, 0, 0, 0, 0, 0, 0, 0, 0, 0, 0, 0, 0, 0, 0, 0, 0, 0, 0, 0, 0, 0, 0, 0, 0, 0, 0, 0, 0, 0, 0, 0, 0, 0, 0, 0, 0, 0, 0, 0, 0, 0, 0, 0, 0, 0, 0, 0, 0, 0, 0, 0, 0, 0, 0, 0, 0, 0, 0, 0, 0, 0, 0, 0, 0, 0, 0, 0, 0, 0, 0, 0, 0, 0, 0, 0, 0, 0, 0, 0, 0, 0, 0, 0, 0, 0, 0, 0, 0, 0, 0, 0, 0, 0, 0, 0, 0, 0, 0, 0, 0, 0, 0, 0, 0, 0, 0, 0, 0, 0, 0, 0, 0, 0, 0, 0, 0, 0, 0, 0, 0, 0, 0, 0, 0, 0, 0, 0, 0, 0, 0, 0, 0, 0, 0, 0, 0, 0, 0, 0, 0, 0, 0, 0, 0, 0, 0, 0, 0, 0, 0, 0, 0, 0, 0, 0, 0, 0, 0, 0, 0, 0, 0, 0, 0, 0, 0, 0, 0, 0, 0, 0, 0, 0, 0, 0, 0, 0, 0, 0, 0, 0, 0, 0, 0, 0, 0, 0, ...], ...]") ∷ rest ∷ []) ∷ (fuel ∷ []) ∷ (cells ∷ []) ∷ (places ∷ []) ∷ (units ∷ []) ∷ []
+unfolding opened
+long_lists_runs = refl
 
 -- globalThis.g = 3; g += 1; console.log(g, typeof globalThis.g, delete globalThis.g, typeof g);
 abbrev global_property : List nodes.Node

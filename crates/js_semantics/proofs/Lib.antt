@@ -5,6 +5,7 @@ mod ExpressionScripts
 mod FunctionScripts
 mod StatementScripts
 mod FaultScripts
+mod EndlessScripts
 mod RealmScripts
 pub mod Relocating
 pub mod Continuing
