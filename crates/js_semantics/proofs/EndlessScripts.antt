@@ -1,15 +1,12 @@
 -- Scripts that no limit but one ends; what catches errors sees no stop.
-use Rattle.std.specs.Prelude.{◌≡◌, ℕ, List, [], ◌∷◌, pos, refl, codes, true, false, Option, Some, None}
-use Rattle.world_kind.specs.declared.WorldKind.TheVariants.{Main, Preload, Page}
-use Rattle.world_log.specs.declared.entry.Level.TheVariants as levels
+use Rattle.std.specs.Prelude.{◌≡◌, List, [], ◌∷◌, pos, refl, codes, true, false, Some, None}
+use Rattle.world_kind.specs.declared.WorldKind.TheVariants.{Main}
 use Rattle.js_tree.specs.declared.node.Node as nodes
 use Rattle.js_tree.specs.declared.node.Node.TheVariants as kinds
-use Rattle.js_tree.specs.declared.node.PropertyKey.TheVariants.{Written, Computed}
 use Rattle.js_tree.specs.declared.node.BinaryOperator.TheVariants as operators
-use Rattle.js_tree.specs.declared.node.UnaryOperator.TheVariants as unaries
 use Rattle.js_tree.specs.declared.node.UpdateOperator.TheVariants as updates
 use Rattle.js_semantics.proofs.Opened.{opened}
-use Rattle.js_semantics.proofs.Worlds.{n, made, at_limits, leveled, logged, thrown, rest, fuel, cells, places, units}
+use Rattle.js_semantics.proofs.Worlds.{n, made, logged, rest, fuel, cells, places, units}
 
 -- try { while (true) {} } catch { console.log("c"); } finally { console.log("f"); }
 abbrev fuel_runs_out : List nodes.Node

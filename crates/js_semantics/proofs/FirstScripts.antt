@@ -1,16 +1,14 @@
 -- Scripts whose transcripts are settled: the console, getters, prototypes, turns of a loop, and what is caught.
 -- Each is run with the least steps, cells, places and units that it needs, and with one less of each in turn.
-use Rattle.std.specs.Prelude.{◌≡◌, ℕ, List, [], ◌∷◌, pos, refl, codes, true, false, Option, Some, None}
-use Rattle.world_kind.specs.declared.WorldKind.TheVariants.{Main, Preload, Page}
-use Rattle.world_log.specs.declared.entry.Level.TheVariants as levels
+use Rattle.std.specs.Prelude.{◌≡◌, List, [], ◌∷◌, pos, refl, codes, false, Some, None}
+use Rattle.world_kind.specs.declared.WorldKind.TheVariants.{Main}
 use Rattle.js_tree.specs.declared.node.Node as nodes
 use Rattle.js_tree.specs.declared.node.Node.TheVariants as kinds
-use Rattle.js_tree.specs.declared.node.PropertyKey.TheVariants.{Written, Computed}
+use Rattle.js_tree.specs.declared.node.PropertyKey.TheVariants.{Written}
 use Rattle.js_tree.specs.declared.node.BinaryOperator.TheVariants as operators
-use Rattle.js_tree.specs.declared.node.UnaryOperator.TheVariants as unaries
 use Rattle.js_tree.specs.declared.node.UpdateOperator.TheVariants as updates
 use Rattle.js_semantics.proofs.Opened.{opened}
-use Rattle.js_semantics.proofs.Worlds.{n, made, at_limits, leveled, logged, thrown, rest, fuel, cells, places, units}
+use Rattle.js_semantics.proofs.Worlds.{n, at_limits, logged, thrown, rest, fuel, cells, places, units}
 
 -- console.log("hi", 7);
 abbrev greeting : List nodes.Node
@@ -20,7 +18,7 @@ greeting_runs : at_limits Main 8 1 1 4 greeting ≡ (logged (codes "hi 7") ∷ r
 unfolding opened
 greeting_runs = refl
 
--- 
+--
 abbrev nothing : List nodes.Node
 nothing = kinds.Script [] ∷ []
 

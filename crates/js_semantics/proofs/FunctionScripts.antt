@@ -1,16 +1,13 @@
 -- Scripts of objects, arrays, functions, calls and patterns.
 -- Each is run with the least steps, cells, places and units that it needs, and with one less of each in turn.
-use Rattle.std.specs.Prelude.{◌≡◌, ℕ, List, [], ◌∷◌, pos, refl, codes, true, false, Option, Some, None}
-use Rattle.world_kind.specs.declared.WorldKind.TheVariants.{Main, Preload, Page}
-use Rattle.world_log.specs.declared.entry.Level.TheVariants as levels
+use Rattle.std.specs.Prelude.{◌≡◌, List, [], ◌∷◌, pos, refl, codes, Some, None}
+use Rattle.world_kind.specs.declared.WorldKind.TheVariants.{Main}
 use Rattle.js_tree.specs.declared.node.Node as nodes
 use Rattle.js_tree.specs.declared.node.Node.TheVariants as kinds
 use Rattle.js_tree.specs.declared.node.PropertyKey.TheVariants.{Written, Computed}
 use Rattle.js_tree.specs.declared.node.BinaryOperator.TheVariants as operators
-use Rattle.js_tree.specs.declared.node.UnaryOperator.TheVariants as unaries
-use Rattle.js_tree.specs.declared.node.UpdateOperator.TheVariants as updates
 use Rattle.js_semantics.proofs.Opened.{opened}
-use Rattle.js_semantics.proofs.Worlds.{n, made, at_limits, leveled, logged, thrown, rest, fuel, cells, places, units}
+use Rattle.js_semantics.proofs.Worlds.{n, at_limits, logged, thrown, rest, fuel, cells, places, units}
 
 -- console.log([1, [2, {a: 3}], "s"], {k: 1, 2: 3, "x y": [], f: () => 1});
 abbrev literals : List nodes.Node

@@ -11,3 +11,4 @@ pub mod Relocating
 pub mod Continuing
 pub mod Programs
 pub mod Stepwise
+pub mod Naturality

@@ -1,16 +1,13 @@
 -- Scripts that use the built-in objects of each kind of world.
 -- Each is run with the least steps, cells, places and units that it needs, and with one less of each in turn.
-use Rattle.std.specs.Prelude.{◌≡◌, ℕ, List, [], ◌∷◌, pos, refl, codes, true, false, Option, Some, None}
+use Rattle.std.specs.Prelude.{◌≡◌, List, [], ◌∷◌, pos, refl, codes, Some, None}
 use Rattle.world_kind.specs.declared.WorldKind.TheVariants.{Main, Preload, Page}
 use Rattle.world_log.specs.declared.entry.Level.TheVariants as levels
 use Rattle.js_tree.specs.declared.node.Node as nodes
 use Rattle.js_tree.specs.declared.node.Node.TheVariants as kinds
-use Rattle.js_tree.specs.declared.node.PropertyKey.TheVariants.{Written, Computed}
 use Rattle.js_tree.specs.declared.node.BinaryOperator.TheVariants as operators
-use Rattle.js_tree.specs.declared.node.UnaryOperator.TheVariants as unaries
-use Rattle.js_tree.specs.declared.node.UpdateOperator.TheVariants as updates
 use Rattle.js_semantics.proofs.Opened.{opened}
-use Rattle.js_semantics.proofs.Worlds.{n, made, at_limits, leveled, logged, thrown, rest, fuel, cells, places, units}
+use Rattle.js_semantics.proofs.Worlds.{n, at_limits, leveled, logged, thrown, rest, fuel, cells, places, units}
 
 -- console.info(1); console.warn("w", {}); console.error(new Error("e")); console.log();
 abbrev console_levels : List nodes.Node

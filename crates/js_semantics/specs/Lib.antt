@@ -16,3 +16,4 @@ pub mod Realm
 pub mod Rows
 pub mod Run
 pub mod Alone
+pub mod Renamed

@@ -8,5 +8,5 @@ mod native;
 
 pub use entry::{Delivery, Entry, Mode, Product, Stop};
 pub use fault::Fault;
-pub use laws::{continued, determined, recursive, renaming};
+pub use laws::{agreeing, continued, determined, recursive, renaming};
 pub use native::Native;
