@@ -5,3 +5,5 @@ pub mod Wells
 pub mod Pooling
 pub mod Counting
 pub mod Begun
+pub mod Bodying
+pub mod Sorting

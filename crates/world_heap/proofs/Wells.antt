@@ -57,7 +57,7 @@ module _ (old new : List (ℕ × Cell ℕ)) (kept : Kept old new) where
   pub fits_kept : (c : Cell ℕ) → Fits nat_eq old c → Fits nat_eq new c
   fits_kept = cell_more (IsNoEnv nat_eq old) (IsNoEnv nat_eq new) no_env_kept (IsCell nat_eq old) (IsCell nat_eq new) cell_kept (IsWithin nat_eq old) (IsWithin nat_eq new) within_kept
 
-no_env_stands : (cells : List (ℕ × Cell ℕ)) (l : ℕ) → IsNoEnv nat_eq cells l → IsCell nat_eq cells l
+pub no_env_stands : (cells : List (ℕ × Cell ℕ)) (l : ℕ) → IsNoEnv nat_eq cells l → IsCell nat_eq cells l
 no_env_stands cells l h = by (find nat_eq cells l) refl h
   where
     by : (o : Option (Cell ℕ)) → find nat_eq cells l ≡ o → IsSomeAnd o (λ c. is_env c ≡ false) → IsCell nat_eq cells l
@@ -65,7 +65,7 @@ no_env_stands cells l h = by (find nat_eq cells l) refl h
     by (Some c) e h = found_stands cells l c e
 
 -- the prototype of a cell that fits stands
-fits_proto : (cells : List (ℕ × Cell ℕ)) (c : Cell ℕ) → Fits nat_eq cells c → OptionOver (IsNoEnv nat_eq cells) (proto_of c)
+pub fits_proto : (cells : List (ℕ × Cell ℕ)) (c : Cell ℕ) → Fits nat_eq cells c → OptionOver (IsNoEnv nat_eq cells) (proto_of c)
 fits_proto cells (Object b) h = h.0
 fits_proto cells (Array p vs f) h = h.0
 fits_proto cells (Closure b n e r) h = h.0.0

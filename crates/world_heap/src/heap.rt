@@ -6,10 +6,13 @@ ghost use Rattle.world_heap.specs.Over.{OptionOver};
 ghost use Rattle.world_heap.specs.Heaps.{IsNoEnv, IsCell, Fits, IsWell};
 ghost use Rattle.world_heap.specs.BuiltIns.{plain_object, objects, place_of};
 ghost use Rattle.world_heap.specs.Views.{IsOwned};
+ghost use Rattle.std.specs.Option.{option_and_then};
+ghost use Rattle.world_heap.specs.Bodies.{body_of, HasBody, rebodied, rewritten};
 ghost use Rattle.world_heap.specs.Growth.{Adds, Grows};
 ghost use Rattle.world_heap.specs.Bounded.{bounds_of};
 ghost use Rattle.world_heap.specs.Starting.{IsNew, empty_heap, with_built_in};
 
+use crate::bodies::{exchanged, written};
 use crate::builtin::{BuiltIn, place_number};
 use crate::cell::{Body, Cell};
 use crate::limits::{Counts, Full, HeapFault, Limits};
@@ -216,6 +219,45 @@ impl Heap {
         ensures is { self.new ≡ record self.old { cells = put nat_eq self.old.cells loc cell } }
     {
         self.store.replace(loc.number(), cell)
+    }
+
+    /// Puts a body in the place of another, and gives that one back. The heap with the new body is well. It takes no
+    /// memory, counts nothing, and its cost is constant.
+    pub fn replace_body(&mut self, loc: Loc, body: Body) -> Body
+        requires stands { HasBody self.old.cells loc }
+        requires keeps { IsWell nat_eq self.old.cells → IsWell nat_eq (rebodied self.old.cells loc body) }
+        ensures was { option_and_then body_of (find nat_eq self.old.cells loc) ≡ Some result }
+        ensures is { self.new ≡ record self.old { cells = rebodied self.old.cells loc body } }
+    {
+        let cell = self
+            .store
+            .replace(loc.number(), Cell::Symbol { text: None });
+        let (cell, was) = exchanged(cell, body);
+        discard(self.store.replace(loc.number(), cell));
+        match was {
+            Some(was) => was,
+            None => unreachable!(),
+        }
+    }
+
+    /// Puts a byte at a place of a buffer, where it has one; another cell stays as it is. It takes no memory, counts
+    /// nothing, and its cost is constant.
+    pub fn write_byte(&mut self, loc: Loc, at: usize, byte: u8)
+        requires { IsCell nat_eq self.old.cells loc }
+        ensures { self.new ≡ record self.old { cells = rewritten self.old.cells loc at byte } }
+    {
+        let cell = self
+            .store
+            .replace(loc.number(), Cell::Symbol { text: None });
+        let cell = written(cell, at, byte);
+        discard(self.store.replace(loc.number(), cell));
+    }
+
+    /// How many cells there are, those that are built in among them.
+    pub fn len(&self) -> u64
+        ensures { result ≡ length self.now.cells }
+    {
+        self.base + self.counts.cells
     }
 
     /// How many cells, places and units were made.

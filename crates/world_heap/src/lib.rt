@@ -1,9 +1,11 @@
 //! The cells of the worlds: values, properties, cells and limits.
 #![tactic(auto)]
 
+mod bodies;
 mod builtin;
 mod cell;
 mod heap;
+mod keys;
 mod limits;
 mod pool;
 mod size;
@@ -11,6 +13,7 @@ mod store;
 mod table;
 mod value;
 
+pub use bodies::body;
 pub use builtin::BuiltIn;
 pub use cell::{Binding, Body, Cell, MapEntry, PromiseState, Reaction};
 pub use heap::Heap;

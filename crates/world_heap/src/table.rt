@@ -1,9 +1,10 @@
 //! Tables from names to what stands under them, in the order in which the names were first put.
-ghost use Rattle.std.specs.Prelude.{◌≡◌, [], ◌∷◌, length, slice_get, OnOk, OnErr, IfOk, IfSome, nat_eq};
+ghost use Rattle.std.specs.Prelude.{◌≡◌, [], ◌<◌, Some, length, slice_get, OnOk, OnErr, IfOk, IfSome, nat_eq};
 ghost use Rattle.std.specs.Cmp.Lexicographic.{pointwise};
 ghost use Rattle.std.specs.Option.{option_copied};
-ghost use Rattle.std.specs.Map.{lookup};
-ghost use Rattle.world_heap.specs.Table.{found_under, put_under, left_without};
+ghost use Rattle.std.specs.Map.{keys_of, values_of};
+ghost use Rattle.indexmap.specs.IndexMap.{set_value_at};
+ghost use Rattle.world_heap.specs.Table.{HasDistinctNames, found_under, put_under, left_without};
 
 use indexmap::IndexMap;
 use std::alloc::{AllocError, Global};
@@ -37,11 +38,23 @@ impl<V> Table<V> {
         }
     }
 
-    /// How many names there are.
+    /// How many names there are; no two of them are the same.
     pub fn len(&self) -> usize
-        ensures { result ≡ length self.now }
+        ensures count { result ≡ length self.now }
+        ensures distinct { HasDistinctNames self.now }
     {
         self.entries.len()
+    }
+
+    /// The name at a place, in the order in which the names were first put.
+    pub fn name(&self, at: usize) -> &Units
+        requires { at < length self.now }
+        ensures { slice_get (keys_of self.now) at ≡ Some result.now }
+    {
+        match self.entries.get_index(at) {
+            Some((name, _)) => name,
+            None => unreachable!(),
+        }
     }
 
     /// What stands under a name. The cost is constant on average.
@@ -61,6 +74,18 @@ impl<V: Drop> Table<V> {
     {
         self.entries.insert(name, value)?;
         Ok(())
+    }
+
+    /// Puts a value in the place of the one under the name at a place, and gives that one back. It takes no memory.
+    pub fn replace_at(&mut self, at: usize, value: V) -> V
+        requires { at < length self.old }
+        ensures was { slice_get (values_of self.old) at ≡ Some result }
+        ensures is { self.new ≡ set_value_at self.old at value }
+    {
+        match self.entries.get_index_mut(at) {
+            Some(place) => std::mem::replace(place, value),
+            None => unreachable!(),
+        }
     }
 
     /// Takes a name out; the others keep their order. It takes no memory, and its cost is linear in the names behind.

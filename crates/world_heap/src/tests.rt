@@ -2,8 +2,12 @@
 ghost use Rattle.std.specs.Prelude.{◌≡◌, None};
 ghost use Rattle.world_heap.specs.declared.cell.Cell.TheVariants.{Symbol};
 
-use crate::{BuiltIn, Cell, Counts, Full, Heap, HeapFault, Limits, Pool, WorldKind};
+use crate::keys::ordered;
+use crate::{
+    BuiltIn, Cell, Counts, Full, Heap, HeapFault, Limits, Pool, Property, Table, Value, WorldKind,
+};
 use std::alloc::{AllocError, Global};
+use wl_text::Units;
 
 // What the calls below answer, in order.
 #[derive(Debug, Drop, Clone, Copy, PartialEq, Eq)]
@@ -153,5 +157,67 @@ fn a_world_ends_beside_another(rt: HostRuntime) {
                 after: 0
             }
         ),
+    }
+}
+
+// Puts a property under a name.
+fn put(alloc: Global, table: &mut Table<Property>, name: &str) -> bool {
+    match Units::of_text(alloc, name) {
+        Err(_) => false,
+        Ok(name) => table
+            .put(
+                name,
+                Property::Data {
+                    value: Value::Null,
+                    writable: true,
+                    enumerable: true,
+                    configurable: true,
+                },
+            )
+            .is_ok(),
+    }
+}
+
+// Takes a name out.
+fn taken_out(alloc: Global, table: &mut Table<Property>, name: &str) -> bool {
+    match Units::of_text(alloc, name) {
+        Err(_) => false,
+        Ok(name) => {
+            table.remove(&name);
+            true
+        }
+    }
+}
+
+// The names of a table in the order of keys, each in quotes.
+fn listed(alloc: Global, table: &Table<Property>) -> Result<Vec<u8>, AllocError> {
+    let names = ordered(alloc, table)?;
+    let mut all = Vec::new(alloc);
+    for name in &names {
+        let quoted = name.quoted(alloc)?;
+        all.extend_from_slice(quoted.as_slice())?;
+    }
+    Ok(all)
+}
+
+#[test]
+fn keys_come_in_order(rt: HostRuntime) {
+    let mut table = Table::new(rt.alloc());
+    for name in ["b", "10", "a", "9", "01", "4294967294", "4294967295", "-1"] {
+        assert!(rt; put(rt.alloc(), &mut table, name));
+    }
+    assert!(rt; taken_out(rt.alloc(), &mut table, "b"));
+    assert!(rt; put(rt.alloc(), &mut table, "b"));
+    assert!(rt; put(rt.alloc(), &mut table, "a"));
+    match listed(rt.alloc(), &table) {
+        Err(_) => assert!(rt; false),
+        Ok(all) => {
+            let want = b"\"9\"\"10\"\"4294967294\"\"a\"\"01\"\"4294967295\"\"-1\"\"b\"";
+            assert!(rt; all.as_slice() == want.as_slice());
+        }
+    }
+    match of_one_cell(rt.alloc()) {
+        Err(_) => assert!(rt; false),
+        Ok(heap) => assert_eq!(rt; heap.len(), 17),
     }
 }

@@ -1,0 +1,6 @@
+pub mod Own
+pub mod Chains
+pub mod Gets
+pub mod Removes
+pub mod Bared
+pub mod Standing
