@@ -1,7 +1,8 @@
 //! The parts of a line.
-ghost use Rattle.std.specs.Prelude.{◌≡◌, ◌≤◌, None, Some, length, MatchOption, IfOk};
+ghost use Rattle.std.specs.Prelude.{◌≡◌, ◌≤◌, None, Some, length, MatchOption, IfOk, IfSome};
 ghost use Rattle.std.specs.List.{list_all, before_first, after_first};
 ghost use Rattle.wl_text.specs.Text.{units_of};
+ghost use Rattle.event_script.specs.Allowed.{IsWindow, IsWorld, IsAllowed};
 ghost use Rattle.event_script.specs.Lines.{cut, window, process, is_digit, count_from, count, world, is_space, is_name_byte, is_event_name, event, effect, is_silent, line_of};
 
 use crate::line::LineKind;
@@ -21,7 +22,8 @@ fn cut(text: &str) -> Option<(&str, &str)>
 
 // The number of a window.
 fn window(text: &[u8]) -> Option<u32>
-    ensures { result ≡ window text.now }
+    ensures value { result ≡ window text.now }
+    ensures allowed { IfSome result IsWindow }
 {
     match text {
         [digit] if b'1' <= *digit && *digit <= b'8' => Some(u32::from(*digit - b'0')),
@@ -32,7 +34,8 @@ fn window(text: &[u8]) -> Option<u32>
 // The number of a process.
 #[tactic(auto, unfolding(crate::specs::Lines::process))]
 fn process(text: &[u8]) -> Option<u32>
-    ensures { result ≡ process text.now }
+    ensures value { result ≡ process text.now }
+    ensures allowed { IfSome result (λ number. number ≤ 8) }
 {
     if text == b"main".as_slice() {
         Some(0)
@@ -49,7 +52,8 @@ fn is_digit(byte: u8) -> bool
 
 // A number that stays within 10,000.
 fn count_of(text: &[u8]) -> Option<u32>
-    ensures { result ≡ count_from 0 text.now }
+    ensures value { result ≡ count_from 0 text.now }
+    ensures allowed { IfSome result (λ count. count ≤ 10000) }
 {
     let mut count = 0;
     'digits: for digit in text {
@@ -67,7 +71,8 @@ fn count_of(text: &[u8]) -> Option<u32>
 // A number from 0 to 10,000 without leading zeros.
 #[tactic(auto, unfolding(crate::specs::Lines::count))]
 fn count(text: &[u8]) -> Option<u32>
-    ensures { result ≡ count text.now }
+    ensures value { result ≡ count text.now }
+    ensures allowed { IfSome result (λ count. count ≤ 10000) }
 {
     match text {
         [] | [b'0', _, ..] => None,
@@ -78,7 +83,8 @@ fn count(text: &[u8]) -> Option<u32>
 // A world, as its kind and its window.
 #[tactic(auto, unfolding(crate::specs::Lines::world))]
 fn world(text: &[u8]) -> Option<(WorldKind, u32)>
-    ensures { result ≡ world text.now }
+    ensures value { result ≡ world text.now }
+    ensures allowed { IfSome result (λ at. IsWorld at.0 at.1) }
 {
     if text == b"main".as_slice() {
         return Some((WorldKind::Main, 0));
@@ -139,7 +145,8 @@ fn name_and_text(text: &str) -> (&str, &str)
 #[tactic(auto, unfolding(crate::specs::Lines::event))]
 fn event(alloc: Global, text: &str) -> Result<Option<LineKind>, AllocError>
     requires { length text.now ≤ 1_048_576 }
-    ensures { IfOk result (λ found. found ≡ event text.now) }
+    ensures value { IfOk result (λ found. found ≡ event text.now) }
+    ensures allowed { IfOk result (λ found. IfSome found IsAllowed) }
 {
     let Some((place, rest)) = cut(text) else {
         return Ok(None);
@@ -165,7 +172,8 @@ fn event(alloc: Global, text: &str) -> Result<Option<LineKind>, AllocError>
 #[tactic(auto, unfolding(crate::specs::Lines::effect))]
 fn effect(alloc: Global, line: &str) -> Result<Option<LineKind>, AllocError>
     requires { length line.now ≤ 1_048_576 }
-    ensures { IfOk result (λ found. found ≡ effect line.now) }
+    ensures value { IfOk result (λ found. found ≡ effect line.now) }
+    ensures allowed { IfOk result (λ found. IfSome found IsAllowed) }
 {
     let Some((word, rest)) = cut(line) else {
         return Ok(None);
@@ -199,7 +207,8 @@ fn is_silent(line: &[u8]) -> bool
 /// What a line does: `None` for a wrong one, `Some(None)` for one without effect.
 pub fn line_of(alloc: Global, line: &[u8]) -> Result<Option<Option<LineKind>>, AllocError>
     requires { length line.now ≤ 1_048_576 }
-    ensures { IfOk result (λ found. found ≡ line_of line.now) }
+    ensures value { IfOk result (λ found. found ≡ line_of line.now) }
+    ensures allowed { IfOk result (λ found. IfSome found (λ effect. IfSome effect IsAllowed)) }
 {
     let Ok(line) = str::from_utf8(line) else {
         return Ok(None);

@@ -1,6 +1,7 @@
 //! Event scripts, line by line.
-ghost use Rattle.std.specs.Prelude.{◌≡◌, ◌+◌, ◌<◌, ◌≤◌, [], ◌∷◌, ◌==◌, Ok, length, position, MatchOption, MatchResult};
+ghost use Rattle.std.specs.Prelude.{◌≡◌, ◌+◌, ◌<◌, ◌≤◌, [], ◌∷◌, ◌==◌, All, Ok, length, position, IfOk, MatchOption, MatchResult};
 ghost use Rattle.std.specs.Str.Lines.{lines, strip_carriage_return};
+ghost use Rattle.event_script.specs.Allowed.{IsAllowed};
 ghost use Rattle.event_script.specs.Script.{script, IsFault};
 
 use crate::line::{Line, LineFault};
@@ -58,7 +59,11 @@ fn next_line(bytes: &[u8]) -> Option<(&[u8], &[u8])>
 /// `Memory` where memory ran out.
 pub fn read_script(alloc: Global, bytes: &[u8]) -> Result<Vec<Line>, LineFault>
     requires { length bytes.now ≤ 1_048_576 }
-    ensures { MatchResult result (λ read. script bytes.now ≡ Ok read.items) (IsFault (script bytes.now)) }
+    ensures exact { MatchResult result (λ read. script bytes.now ≡ Ok read.items) (IsFault (script bytes.now)) }
+
+    // The numbers of processes and windows, and the counts, are those that may stand in a script.
+    ensures allowed { IfOk result (λ read. All (λ line. IsAllowed line.what) read.items) }
+    ensures few { IfOk result (λ read. length read.items ≤ 1_048_576) }
 {
     let mut read = Vec::new(alloc);
     let mut rest = bytes;

@@ -9,5 +9,6 @@ pub mod Limits
 pub mod Pairs
 pub mod Lists
 pub mod Fronts
+pub mod Free
 pub mod Steps
 pub mod Sample

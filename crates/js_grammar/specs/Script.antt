@@ -15,11 +15,13 @@ Rule = Grammar Token
 abbrev pub one : List ℕ → Rule
 one classes = token (kinds classes)
 
-abbrev pub m : List ℕ → Rule
-m spelling = one (mark spelling ∷ [])
+-- a punctuator
+abbrev pub punctuator : List ℕ → Rule
+punctuator spelling = one (mark spelling ∷ [])
 
-abbrev pub w : List ℕ → Rule
-w spelling = one (word spelling ∷ [])
+-- a reserved word
+abbrev pub keyword : List ℕ → Rule
+keyword spelling = one (word spelling ∷ [])
 
 abbrev pub an_end : Rule
 an_end = one (end ∷ [])
@@ -41,7 +43,7 @@ any x = many always x
 
 -- with a comma between them
 abbrev pub commas : Rule → Rule
-commas x = both x (any (both (m (codes ",")) x))
+commas x = both x (any (both (punctuator (codes ",")) x))
 
 -- Behind a comma a member came.
 abbrev pub has_member : Tree Token → Bool
@@ -50,7 +52,7 @@ has_member _ = true
 
 -- with a comma between them, and maybe one behind the last; or none
 abbrev pub listed : Rule → Rule
-listed x = optional (both x (many has_member (both (m (codes ",")) (optional x))))
+listed x = optional (both x (many has_member (both (punctuator (codes ",")) (optional x))))
 
 -- operands with operators of one line between them
 abbrev pub operators : List ℕ → Rule → Rule
@@ -150,21 +152,21 @@ bind = either identifier pattern
 
 -- ["=" Assign]
 abbrev pub default : Rule
-default = optional (both (m (codes "=")) (right true))
+default = optional (both (punctuator (codes "=")) (right true))
 
 -- Key [":" Bind] ["=" Assign], where a Key without ":" is a name
 abbrev pub pattern_member : Rule
-pattern_member = both (either (both identifier (optional (both (m (codes ":")) bind))) (both (one (text ∷ reserved)) (both (m (codes ":")) bind))) default
+pattern_member = both (either (both identifier (optional (both (punctuator (codes ":")) bind))) (both (one (text ∷ reserved)) (both (punctuator (codes ":")) bind))) default
 
 unfoldable pub pattern_rule : Rule
-pattern_rule = either (both (m (codes "{")) (both (listed pattern_member) (m (codes "}"))))
-    (both (m (codes "[")) (both (listed (both bind default)) (m (codes "]"))))
+pattern_rule = either (both (punctuator (codes "{")) (both (listed pattern_member) (punctuator (codes "}"))))
+    (both (punctuator (codes "[")) (both (listed (both bind default)) (punctuator (codes "]"))))
 
 abbrev pub parameter : Rule
 parameter = both bind default
 
 abbrev pub rest_parameter : Rule
-rest_parameter = named 58 (both (m (codes "...")) identifier)
+rest_parameter = named 58 (both (punctuator (codes "...")) identifier)
 
 abbrev pub is_parameter : Tree Token → Bool
 is_parameter (node n a) = false
@@ -178,7 +180,7 @@ has_parameter _ = true
 -- Params: one comma may end the list, but not behind "..."
 abbrev pub parameter_list : Rule
 parameter_list = optional (on is_parameter (either rest_parameter parameter)
-    (many has_parameter (both (m (codes ",")) (optional (either rest_parameter parameter)))) empty)
+    (many has_parameter (both (punctuator (codes ",")) (optional (either rest_parameter parameter)))) empty)
 
 -- Fun
 abbrev pub function_rest : Rule
@@ -191,7 +193,7 @@ abbrev pub any_name : Rule
 any_name = one (names ++ reserved)
 
 abbrev pub member_suffix : Rule
-member_suffix = either (both (m (codes ".")) any_name) index
+member_suffix = either (both (punctuator (codes ".")) any_name) index
 
 abbrev pub suffix : Rule
 suffix = either arguments member_suffix
@@ -250,84 +252,84 @@ relational true = mark (codes "<") ∷ mark (codes ">") ∷ mark (codes "<=") �
 relational false = mark (codes "<") ∷ mark (codes ">") ∷ mark (codes "<=") ∷ mark (codes ">=") ∷ word (codes "instanceof") ∷ []
 
 unfoldable pub rel_rule : Bool → Rule
-rel_rule i = named (form i 34) (operators (relational i) shift)
+rel_rule allow_in = named (form allow_in 34) (operators (relational allow_in) shift)
 
 abbrev pub rel : Bool → Rule
-rel i = line (form i 34) (rel_rule i)
+rel allow_in = line (form allow_in 34) (rel_rule allow_in)
 
 unfoldable pub equal_rule : Bool → Rule
-equal_rule i = named (form i 35) (operators (mark (codes "===") ∷ mark (codes "!==") ∷ []) (rel i))
+equal_rule allow_in = named (form allow_in 35) (operators (mark (codes "===") ∷ mark (codes "!==") ∷ []) (rel allow_in))
 
 abbrev pub equal : Bool → Rule
-equal i = line (form i 35) (equal_rule i)
+equal allow_in = line (form allow_in 35) (equal_rule allow_in)
 
 unfoldable pub bit_and_rule : Bool → Rule
-bit_and_rule i = named (form i 36) (operators (mark (codes "&") ∷ []) (equal i))
+bit_and_rule allow_in = named (form allow_in 36) (operators (mark (codes "&") ∷ []) (equal allow_in))
 
 abbrev pub bit_and : Bool → Rule
-bit_and i = line (form i 36) (bit_and_rule i)
+bit_and allow_in = line (form allow_in 36) (bit_and_rule allow_in)
 
 unfoldable pub bit_xor_rule : Bool → Rule
-bit_xor_rule i = named (form i 37) (operators (mark (codes "^") ∷ []) (bit_and i))
+bit_xor_rule allow_in = named (form allow_in 37) (operators (mark (codes "^") ∷ []) (bit_and allow_in))
 
 abbrev pub bit_xor : Bool → Rule
-bit_xor i = line (form i 37) (bit_xor_rule i)
+bit_xor allow_in = line (form allow_in 37) (bit_xor_rule allow_in)
 
 unfoldable pub bit_or_rule : Bool → Rule
-bit_or_rule i = named (form i 38) (operators (mark (codes "|") ∷ []) (bit_xor i))
+bit_or_rule allow_in = named (form allow_in 38) (operators (mark (codes "|") ∷ []) (bit_xor allow_in))
 
 abbrev pub bit_or : Bool → Rule
-bit_or i = line (form i 38) (bit_or_rule i)
+bit_or allow_in = line (form allow_in 38) (bit_or_rule allow_in)
 
 unfoldable pub and_rule : Bool → Rule
-and_rule i = named (form i 39) (operators (mark (codes "&&") ∷ []) (bit_or i))
+and_rule allow_in = named (form allow_in 39) (operators (mark (codes "&&") ∷ []) (bit_or allow_in))
 
 abbrev pub and : Bool → Rule
-and i = line (form i 39) (and_rule i)
+and allow_in = line (form allow_in 39) (and_rule allow_in)
 
 unfoldable pub or_rule : Bool → Rule
-or_rule i = named (form i 40) (operators (mark (codes "||") ∷ []) (and i))
+or_rule allow_in = named (form allow_in 40) (operators (mark (codes "||") ∷ []) (and allow_in))
 
 abbrev pub or : Bool → Rule
-or i = line (form i 40) (or_rule i)
+or allow_in = line (form allow_in 40) (or_rule allow_in)
 
 -- Short: behind a BitOr alone may come "??"
 unfoldable pub short_rule : Bool → Rule
-short_rule i = named (form i 41) (on (reaches (38 ∷ 49 ∷ [])) (or i) (any (both (m (codes "??")) (bit_or i))) empty)
+short_rule allow_in = named (form allow_in 41) (on (reaches (38 ∷ 49 ∷ [])) (or allow_in) (any (both (punctuator (codes "??")) (bit_or allow_in))) empty)
 
 abbrev pub short : Bool → Rule
-short i = line (form i 41) (short_rule i)
+short allow_in = line (form allow_in 41) (short_rule allow_in)
 
 -- "?" Assign ":" Assign
 abbrev pub branches : Bool → Rule
-branches i = both (m (codes "?")) (both (right i) (both (m (codes ":")) (right i)))
+branches allow_in = both (punctuator (codes "?")) (both (right allow_in) (both (punctuator (codes ":")) (right allow_in)))
 
 abbrev pub assign_operators : List ℕ
 assign_operators = mark (codes "=") ∷ mark (codes "+=") ∷ mark (codes "-=") ∷ mark (codes "*=") ∷ mark (codes "/=") ∷ mark (codes "%=") ∷ []
 
 -- Cond | Left Op Assign: an operator may come behind a Left alone
 unfoldable pub cond_rule : Bool → Rule
-cond_rule i = named (form i 42) (on (reaches (29 ∷ [])) (short i) (optional (either (both (one assign_operators) (right i)) (branches i))) (optional (branches i)))
+cond_rule allow_in = named (form allow_in 42) (on (reaches (29 ∷ [])) (short allow_in) (optional (either (both (one assign_operators) (right allow_in)) (branches allow_in))) (optional (branches allow_in)))
 
 abbrev pub cond : Bool → Rule
-cond i = line (form i 42) (cond_rule i)
+cond allow_in = line (form allow_in 42) (cond_rule allow_in)
 
 abbrev pub arrow_kinds : List ℕ
 arrow_kinds = unbroken_kinds (mark (codes "=>") ∷ [])
 
 -- Assign: an arrow is what has "=>" behind a name or parameters, with no line break between.
 unfoldable pub assign_rule : Bool → Rule
-assign_rule i = named (form i 43) (fork arrow_kinds (cond i) (both (either parameters identifier) (arrow_tail i)))
+assign_rule allow_in = named (form allow_in 43) (fork arrow_kinds (cond allow_in) (both (either parameters identifier) (arrow_tail allow_in)))
 
 abbrev pub assign : Bool → Rule
-assign i = line (form i 43) (assign_rule i)
+assign allow_in = line (form allow_in 43) (assign_rule allow_in)
 
 -- Expr
 unfoldable pub expr_rule : Bool → Rule
-expr_rule i = named (form i 44) (commas (assign i))
+expr_rule allow_in = named (form allow_in 44) (commas (assign allow_in))
 
 abbrev pub expr : Bool → Rule
-expr i = line (form i 44) (expr_rule i)
+expr allow_in = line (form allow_in 44) (expr_rule allow_in)
 
 -- It begins with none of these.
 abbrev pub but_not : List ℕ → Rule → Rule
@@ -338,7 +340,7 @@ abbrev pub unbroken : Rule → Rule
 unbroken x = starting (λ kind. kind % 2 == 0) x
 
 unfoldable pub arrow_rule : Bool → Rule
-arrow_rule i = both (token arrow_kinds) (either block (but_not (mark (codes "{") ∷ []) (assign i)))
+arrow_rule allow_in = both (token arrow_kinds) (either block (but_not (mark (codes "{") ∷ []) (assign allow_in)))
 
 abbrev pub prefix_operators : List ℕ
 prefix_operators = mark (codes "!") ∷ mark (codes "~") ∷ mark (codes "+") ∷ mark (codes "-") ∷ word (codes "typeof") ∷ word (codes "void") ∷ word (codes "delete") ∷ mark (codes "++") ∷ mark (codes "--") ∷ []
@@ -347,26 +349,26 @@ unfoldable pub prefixed_rule : Rule
 prefixed_rule = both (one prefix_operators) unary
 
 unfoldable pub new_rule : Rule
-new_rule = both (w (codes "new")) (line 28 member_rule)
+new_rule = both (keyword (codes "new")) (line 28 member_rule)
 
 unfoldable pub group_rule : Rule
-group_rule = both (m (codes "(")) (both (expr true) (m (codes ")")))
+group_rule = both (punctuator (codes "(")) (both (expr true) (punctuator (codes ")")))
 
 unfoldable pub index_rule : Rule
-index_rule = both (m (codes "[")) (both (expr true) (m (codes "]")))
+index_rule = both (punctuator (codes "[")) (both (expr true) (punctuator (codes "]")))
 
 unfoldable pub computed_rule : Rule
-computed_rule = both (m (codes "[")) (both (assign true) (m (codes "]")))
+computed_rule = both (punctuator (codes "[")) (both (assign true) (punctuator (codes "]")))
 
 -- ["..."] Assign
 abbrev pub element : Rule
-element = either (both (m (codes "...")) (assign true)) (assign true)
+element = either (both (punctuator (codes "...")) (assign true)) (assign true)
 
 unfoldable pub array_rule : Rule
-array_rule = both (m (codes "[")) (both (listed element) (m (codes "]")))
+array_rule = both (punctuator (codes "[")) (both (listed element) (punctuator (codes "]")))
 
 unfoldable pub arguments_rule : Rule
-arguments_rule = both (m (codes "(")) (both (listed element) (m (codes ")")))
+arguments_rule = both (punctuator (codes "(")) (both (listed element) (punctuator (codes ")")))
 
 unfoldable pub template_rule : Rule
 template_rule = both (one (template_head ∷ [])) (both (expr true) (both (any (both (one (template_middle ∷ [])) (expr true))) (one (template_tail ∷ []))))
@@ -377,7 +379,7 @@ key = either computed_key (one (text ∷ number ∷ names ++ reserved))
 
 -- ":" Assign | Fun
 abbrev pub behind_key : Rule
-behind_key = either (both (m (codes ":")) (assign true)) method
+behind_key = either (both (punctuator (codes ":")) (assign true)) method
 
 -- Prop: `get` and `set` before a key begin a getter and a setter; a name may stand alone
 abbrev pub property : Rule
@@ -386,40 +388,40 @@ property = either (both (one (name (codes "get") ∷ [])) (either (both key gett
     (either (both (either computed_key (one (text ∷ number ∷ reserved))) behind_key) (both (one (name (codes "of") ∷ 4 ∷ [])) (optional behind_key))))
 
 unfoldable pub object_rule : Rule
-object_rule = both (m (codes "{")) (both (listed property) (m (codes "}")))
+object_rule = both (punctuator (codes "{")) (both (listed property) (punctuator (codes "}")))
 
 -- ---- functions
 
 unfoldable pub function_rule : Rule
-function_rule = both (w (codes "function")) (both (optional identifier) function_rest)
+function_rule = both (keyword (codes "function")) (both (optional identifier) function_rest)
 
 unfoldable pub declared_rule : Rule
-declared_rule = both (w (codes "function")) (both identifier function_rest)
+declared_rule = both (keyword (codes "function")) (both identifier function_rest)
 
 unfoldable pub parameters_rule : Rule
-parameters_rule = both (m (codes "(")) (both parameter_list (m (codes ")")))
+parameters_rule = both (punctuator (codes "(")) (both parameter_list (punctuator (codes ")")))
 
 unfoldable pub no_parameters_rule : Rule
-no_parameters_rule = both (m (codes "(")) (m (codes ")"))
+no_parameters_rule = both (punctuator (codes "(")) (punctuator (codes ")"))
 
 unfoldable pub one_parameter_rule : Rule
-one_parameter_rule = both (m (codes "(")) (both bind (m (codes ")")))
+one_parameter_rule = both (punctuator (codes "(")) (both bind (punctuator (codes ")")))
 
 -- ---- declarations
 
 abbrev pub initial : Bool → Rule
-initial i = both (m (codes "=")) (assign i)
+initial allow_in = both (punctuator (codes "=")) (assign allow_in)
 
 -- A pattern has a value.
 abbrev pub let_binding : Bool → Rule
-let_binding i = either (both identifier (optional (initial i))) (both pattern (initial i))
+let_binding allow_in = either (both identifier (optional (initial allow_in))) (both pattern (initial allow_in))
 
 abbrev pub const_binding : Bool → Rule
-const_binding i = both bind (initial i)
+const_binding allow_in = both bind (initial allow_in)
 
 -- Decl
 abbrev pub declaration : Rule
-declaration = either (both (w (codes "let")) (commas (let_binding true))) (both (w (codes "const")) (commas (const_binding true)))
+declaration = either (both (keyword (codes "let")) (commas (let_binding true))) (both (keyword (codes "const")) (commas (const_binding true)))
 
 -- ---- statements
 
@@ -429,40 +431,40 @@ controlled = both group body
 
 -- An `else` belongs to the nearest `if`.
 abbrev pub if_statement : Rule
-if_statement = both (w (codes "if")) (both controlled (prefer (kinds (word (codes "else") ∷ [])) (both (w (codes "else")) body)))
+if_statement = both (keyword (codes "if")) (both controlled (prefer (kinds (word (codes "else") ∷ [])) (both (keyword (codes "else")) body)))
 
 abbrev pub while_statement : Rule
-while_statement = both (w (codes "while")) controlled
+while_statement = both (keyword (codes "while")) controlled
 
 abbrev pub do_statement : Rule
-do_statement = both (w (codes "do")) (both body (both (w (codes "while")) (both group (m (codes ";")))))
+do_statement = both (keyword (codes "do")) (both body (both (keyword (codes "while")) (both group (punctuator (codes ";")))))
 
 abbrev pub for_statement : Rule
-for_statement = both (w (codes "for")) (both for_head body)
+for_statement = both (keyword (codes "for")) (both for_head body)
 
 abbrev pub return_statement : Rule
-return_statement = both (w (codes "return")) (both (optional (unbroken (expr true))) (m (codes ";")))
+return_statement = both (keyword (codes "return")) (both (optional (unbroken (expr true))) (punctuator (codes ";")))
 
 abbrev pub jump : Rule
-jump = both (one (word (codes "break") ∷ word (codes "continue") ∷ [])) (m (codes ";"))
+jump = both (one (word (codes "break") ∷ word (codes "continue") ∷ [])) (punctuator (codes ";"))
 
 abbrev pub throw_statement : Rule
-throw_statement = both (w (codes "throw")) (both (unbroken (expr true)) (m (codes ";")))
+throw_statement = both (keyword (codes "throw")) (both (unbroken (expr true)) (punctuator (codes ";")))
 
 abbrev pub finally : Rule
-finally = both (w (codes "finally")) block
+finally = both (keyword (codes "finally")) block
 
 -- It has a catch or finally.
 abbrev pub try_statement : Rule
-try_statement = both (w (codes "try")) (both block (either (both (w (codes "catch")) (both (optional one_parameter) (both block (optional finally)))) finally))
+try_statement = both (keyword (codes "try")) (both block (either (both (keyword (codes "catch")) (both (optional one_parameter) (both block (optional finally)))) finally))
 
 -- An expression that is a statement begins with neither "{" nor `function`.
 abbrev pub expression_statement : Rule
-expression_statement = both (but_not (mark (codes "{") ∷ word (codes "function") ∷ []) (expr true)) (m (codes ";"))
+expression_statement = both (but_not (mark (codes "{") ∷ word (codes "function") ∷ []) (expr true)) (punctuator (codes ";"))
 
 -- Stmt
 unfoldable pub stmt_rule : Rule
-stmt_rule = either block (either (m (codes ";")) (either if_statement (either while_statement (either do_statement (either for_statement
+stmt_rule = either block (either (punctuator (codes ";")) (either if_statement (either while_statement (either do_statement (either for_statement
     (either return_statement (either jump (either throw_statement (either try_statement expression_statement)))))))))
 
 abbrev pub stmt : Rule
@@ -470,17 +472,17 @@ stmt = line 57 stmt_rule
 
 -- Item
 unfoldable pub item_rule : Rule
-item_rule = either (both declaration (m (codes ";"))) (either function_declaration stmt)
+item_rule = either (both declaration (punctuator (codes ";"))) (either function_declaration stmt)
 
 abbrev pub item : Rule
 item = line 56 item_rule
 
 unfoldable pub block_rule : Rule
-block_rule = both (m (codes "{")) (both (any item) (m (codes "}")))
+block_rule = both (punctuator (codes "{")) (both (any item) (punctuator (codes "}")))
 
 -- ";" [Expr] ";" [Expr]
 abbrev pub loop_rest : Rule
-loop_rest = both (m (codes ";")) (both (optional (expr true)) (both (m (codes ";")) (optional (expr true))))
+loop_rest = both (punctuator (codes ";")) (both (optional (expr true)) (both (punctuator (codes ";")) (optional (expr true))))
 
 -- "of" Assign
 abbrev pub of_list : Rule
@@ -488,17 +490,17 @@ of_list = both an_of (assign true)
 
 -- the rest of a Decl in which `in` may not stand, and of the head
 abbrev pub loop_behind : Rule → Rule
-loop_behind binding = both (any (both (m (codes ",")) binding)) loop_rest
+loop_behind binding = both (any (both (punctuator (codes ",")) binding)) loop_rest
 
 abbrev pub let_head : Rule
-let_head = both (w (codes "let")) (either (both identifier (either of_list (both (optional (initial false)) (loop_behind (let_binding false)))))
+let_head = both (keyword (codes "let")) (either (both identifier (either of_list (both (optional (initial false)) (loop_behind (let_binding false)))))
     (both pattern (either of_list (both (initial false) (loop_behind (let_binding false))))))
 
 abbrev pub const_head : Rule
-const_head = both (w (codes "const")) (both bind (either of_list (both (initial false) (loop_behind (const_binding false)))))
+const_head = both (keyword (codes "const")) (both bind (either of_list (both (initial false) (loop_behind (const_binding false)))))
 
 unfoldable pub for_rule : Rule
-for_rule = both (m (codes "(")) (both (either let_head (either const_head (either (both (expr false) loop_rest) loop_rest))) (m (codes ")")))
+for_rule = both (punctuator (codes "(")) (both (either let_head (either const_head (either (both (expr false) loop_rest) loop_rest))) (punctuator (codes ")")))
 
 -- Script
 unfoldable pub script_rule : Rule

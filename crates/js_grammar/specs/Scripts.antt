@@ -1,5 +1,5 @@
 -- Scripts, how they are read, and what is promised of that.
-use Rattle.std.specs.Prelude.{◌≡◌, ◌<◌, ◌^◌, ℕ, suc, Bool, false, List, [], ◌∷◌, ◌++◌, length, Ok, Err}
+use Rattle.std.specs.Prelude.{◌≡◌, ◌<◌, ◌^◌, ℕ, suc, Bool, false, List, [], ◌∷◌, ◌++◌, length, Ok, Err, true}
 use Rattle.grammar.specs.Kinds.{among}
 use Rattle.grammar.specs.Grammar.{Tree, Derives, Viable, NoneGoesOn}
 use Rattle.grammar.specs.Reading.{Answer, read}
@@ -24,7 +24,7 @@ NoEnd (t ∷ ts) = (is_end t ≡ false) × NoEnd ts
 
 -- They end with the one token that says so.
 abbrev pub Ended : List Token → Type 0
-Ended tokens = (front : List Token) × (t : Token) × (tokens ≡ front ++ t ∷ []) × NoEnd front
+Ended tokens = (front : List Token) × (t : Token) × (tokens ≡ front ++ t ∷ []) × NoEnd front × (is_end t ≡ true)
 
 -- What is read is a script, and what is a script is read.
 abbrev pub ReadsScripts : Type 0
@@ -45,3 +45,7 @@ abbrev pub IsExact : Type 0
 IsExact = (tokens left : List Token) (deep : Bool) → length tokens < 2 ^ 64 → read_script tokens ≡ Err (deep, left)
     → (front : List Token) × (tokens ≡ front ++ left) × Viable script_language script front
     × NoneGoesOn script_language (suc nesting) script front left × (deep ≡ false → (depth : ℕ) → NoneGoesOn script_language depth script front left)
+
+-- A fault of a text's tokens is at one of them.
+abbrev pub FaultsAtTokens : Type 0
+FaultsAtTokens = (tokens left : List Token) (deep : Bool) → Ended tokens → read_script tokens ≡ Err (deep, left) → (t : Token) × (rest : List Token) × (left ≡ t ∷ rest)

@@ -3,7 +3,7 @@
 //! `specs/Kinds` has the kinds of tokens, `specs/Script` the rules, line by line, and `specs/Scripts` what is promised.
 #![tactic(auto)]
 
-ghost use Rattle.js_grammar.specs.Scripts.{ReadsScripts, ReadsToTheEnd, HasOneTree, IsExact};
+ghost use Rattle.js_grammar.specs.Scripts.{ReadsScripts, ReadsToTheEnd, HasOneTree, IsExact, FaultsAtTokens};
 
 /// What is read is a script, and what is a script is read.
 pub fn scripts_are_read()
@@ -23,4 +23,9 @@ pub fn one_tree()
 /// A fault is at the first token that no script has after the tokens before it, or that begins what nests too deep.
 pub fn exact_place()
     ensures { IsExact }
+{}
+
+/// A fault of a text's tokens is at one of them, the end if need be.
+pub fn faults_are_at_tokens()
+    ensures { FaultsAtTokens }
 {}

@@ -2,6 +2,7 @@ pub mod Checked
 pub mod Comments
 pub mod Kept
 mod MarkNumbers
+pub mod NameUnits
 pub mod Names
 pub mod NestingLemmas
 pub mod Order

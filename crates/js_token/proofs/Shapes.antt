@@ -1,13 +1,12 @@
 -- What lists of tokens are like.
-use Rattle.std.proofs.Common.{◌≡◌, ℕ, zero, suc, ◌+◌, ◌≤◌, ◌<◌, Bool, true, false, cond, ◌||◌, List, [], ◌∷◌, ◌++◌, length, Result, Ok, refl, ap, subst, ◌∙◌, sym, arith, inl, inr, ◌⊎◌, nat_lt, nat_eq, pos, map, ◌-◌, ◌/◌, ◌%◌}
+use Rattle.std.proofs.Common.{◌≡◌, ℕ, zero, suc, ◌≤◌, ◌<◌, Bool, true, false, ◌||◌, List, [], ◌∷◌, length, Result, Ok, refl, ap, subst, ◌∙◌, sym, arith, inl, inr, ◌⊎◌, nat_lt, nat_eq, pos, map, ◌-◌}
 use Rattle.std.specs.Prelude.{Option, Some, None, ◌==◌, if◌then◌else◌, take, drop}
 use Rattle.std.specs.Cmp.Lexicographic.{pointwise}
 use Rattle.std.specs.Option.{option_map}
-use Rattle.std.specs.Char.Escape.{encode_utf16}
 use Rattle.std.proofs.lemmas.Bool.Decides.{nat_tests}
 use Rattle.std.specs.Char.{digit_value}
 use Rattle.std.specs.List.{position_or_len}
-use Rattle.std.specs.Str.{chars}
+use Rattle.std.specs.Str.{chars, IsUtf8}
 use Rattle.js_token.specs.Characters.{with_places, is_digit}
 use Rattle.js_token.specs.Gaps.{gap_at}
 use Rattle.js_token.specs.Literals.{text_at}
@@ -19,9 +18,12 @@ use Rattle.js_token.specs.declared.token.TokenKind.TheVariants.{Name, Word, Numb
 use Rattle.js_token.specs.declared.token.LexFault.{LexFault}
 use Rattle.js_token.specs.Reading.{◌>>=◌}
 use Rattle.js_token.proofs.Checked.{checked-same}
+use Rattle.std.proofs.lemmas.Str.{scalars-chars}
+use Rattle.js_token.proofs.NameUnits.{Scalars, behind_scalar, with_places-scalars, name_at-name}
+use Rattle.js_token.proofs.Kept.{kept-gap, kept-token}
 use Rattle.js_token.proofs.Results.{bind_ok, chosen, ok_same, some_same}
 use Rattle.js_token.specs.Marks.{marks, mark_place, mark_of_size, mark_at, or_else}
-use Rattle.js_token.specs.Words.{name_at, is_word, starts_name, rest_of_name}
+use Rattle.js_token.specs.Words.{name_at, is_word, starts_name, is_name}
 use Rattle.js_token.specs.Numbers.{number_at, value_at, is_number_going_on}
 use Rattle.js_token.specs.Nesting.{Nest, outside, open_template, opened, closed, closed_in, behind_piece, outermost}
 use Rattle.js_token.specs.Lists.{IsInner, EndsAt, behind_kind, are_nested, if_some}
@@ -48,23 +50,12 @@ below : (m n : ℕ) → nat_lt m n ≡ true → m < n
 below m n h = grind (arith, nat_tests)
 
 -- names and words
-named-holds : (units : List ℕ) (rest : List Placed) → 0 < length units → HoldsPlain (named (units, rest)).0
-named-holds units rest some = by_word (is_word units) refl
+named-holds : (units : List ℕ) (rest : List Placed) → (is_word units ≡ false → is_name units ≡ true) → HoldsPlain (named (units, rest)).0
+named-holds units rest name = by_word (is_word units) refl
   where
     by_word : (b : Bool) → is_word units ≡ b → HoldsPlain (if b then Word units else Name units)
     by_word true e = record { inner = e; nests = λ _. refl }
-    by_word false e = record { inner = (some, e); nests = λ _. refl }
-
-encode_utf16-some : (c : ℕ) (more : List ℕ) → 0 < length (encode_utf16 c ++ more)
-encode_utf16-some c more = by_size (nat_lt c 0x1_0000)
-  where
-    by_size : (b : Bool) → 0 < length (cond b (c ∷ []) ((0xD800 + (c - 0x1_0000) / 0x400) ∷ (0xDC00 + (c - 0x1_0000) % 0x400) ∷ []) ++ more)
-    by_size true = omega arith
-    by_size false = omega arith
-
-name_at-holds : (c : Placed) (rest : List Placed) → HoldsPlain (named (name_at c rest)).0
-unfolding name_at
-name_at-holds c rest = named-holds (encode_utf16 c.symbol ++ (rest_of_name rest).0) (rest_of_name rest).1 (encode_utf16-some c.symbol (rest_of_name rest).0)
+    by_word false e = record { inner = name e; nests = λ _. refl }
 
 -- numbers
 number_at-most : (place digit : ℕ) (rest : List Placed) (x : ℕ × List Placed) → number_at place digit rest ≡ Ok x → x.0 ≤ 9_007_199_254_740_991
@@ -114,11 +105,11 @@ marked-holds place (Some y) x small h =
     subst (λ (z : TokenKind × List Placed). HoldsPlain z.0) (ok_same (Mark y.0, y.1) x h) (record { inner = small y refl; nests = λ _. refl })
 
 -- every token but the stretches of templates and the braces
-plain_at-holds : (c : Placed) (rest : List Placed) (x : TokenKind × List Placed) → plain_at c rest ≡ Ok x → HoldsPlain x.0
+plain_at-holds : (c : Placed) (rest : List Placed) (x : TokenKind × List Placed) → Scalars (c ∷ rest) → plain_at c rest ≡ Ok x → HoldsPlain x.0
 unfolding plain_at
-plain_at-holds c rest x h =
+plain_at-holds c rest x s h =
     elim (chosen (starts_name c.symbol) _ _ _ h) [
-      | inl w ↦ subst (λ (z : TokenKind × List Placed). HoldsPlain z.0) (ok_same (named (name_at c rest)) x w.1) (name_at-holds c rest)
+      | inl w ↦ subst (λ (z : TokenKind × List Placed). HoldsPlain z.0) (ok_same (named (name_at c rest)) x w.1) (named-holds (name_at c rest).0 (name_at c rest).1 (name_at-name c rest w.0 s))
       | inr w ↦ elim (chosen (is_digit c.symbol) _ _ _ w.1) [
         | inl v ↦ number v.1
         | inr v ↦ elim (chosen ((c.symbol == 39) || (c.symbol == 34)) _ _ _ v.1) [
@@ -175,9 +166,9 @@ closing-holds braces (part ∷ outer) rest x h = by_braces (part.braces == brace
     by_braces true g = further-holds part.start (record { braces = braces; parts = outer }) rest x g
     by_braces false g = subst (Holds (length (part ∷ outer))) (ok_same _ x g) (brace-holds (record { braces = braces - 1; parts = part ∷ outer }) rest 1 (length (part ∷ outer)) (omega arith) refl)
 
-token_at-holds : (nest : Nest) (c : Placed) (rest : List Placed) (x : Front) → token_at nest c rest ≡ Ok x → Holds (length nest.parts) x
+token_at-holds : (nest : Nest) (c : Placed) (rest : List Placed) (x : Front) → Scalars (c ∷ rest) → token_at nest c rest ≡ Ok x → Holds (length nest.parts) x
 unfolding token_at closed
-token_at-holds nest c rest x h =
+token_at-holds nest c rest x s h =
     elim (chosen (c.symbol == 96) _ _ _ h) [
       | inl w ↦ first-holds c.place nest rest x w.1
       | inr w ↦ elim (chosen (c.symbol == 123) _ _ _ w.1) [
@@ -192,7 +183,7 @@ token_at-holds nest c rest x h =
     plain : beside nest (plain_at c rest) ≡ Ok x → Holds (length nest.parts) x
     plain g =
         let read = bind_ok (plain_at c rest) (λ y. Ok (front y.0 nest y.1)) x g in
-        let held = plain_at-holds c rest read.0 read.1 in
+        let held = plain_at-holds c rest read.0 s read.1 in
         subst (Holds (length nest.parts)) (ok_same _ x read.2) (record { inner = held.inner; nests = held.nests (length nest.parts) })
 
 -- what a whole list is like, where so many parts are open in front
@@ -211,34 +202,36 @@ ends-more end token (next ∷ more) inner h = (inner, h)
 
 -- one turn, where what follows is so
 turn-whole : (more : Nest → Bool → List Placed → Result (List Token) LexFault) (end : ℕ) (nest : Nest) (broken : Bool) (c : Placed) (rest : List Placed) (list : List Token)
-    → ((nest : Nest) (broken : Bool) (chars : List Placed) (list : List Token) → more nest broken chars ≡ Ok list → Whole (length nest.parts) end list)
-    → (gap : Option (Bool × List Placed)) → turn more nest broken c rest gap ≡ Ok list → Whole (length nest.parts) end list
-turn-whole more end nest broken c rest list holds (Some gap) g = holds nest (broken || gap.0) gap.1 list g
-turn-whole more end nest broken c rest list holds None g =
+    → ((nest : Nest) (broken : Bool) (chars : List Placed) (list : List Token) → Scalars chars → more nest broken chars ≡ Ok list → Whole (length nest.parts) end list)
+    → Scalars (c ∷ rest) → (gap : Option (Bool × List Placed)) → gap_at (c ∷ rest) ≡ Ok gap → turn more nest broken c rest gap ≡ Ok list → Whole (length nest.parts) end list
+turn-whole more end nest broken c rest list holds s (Some gap) e g = holds nest (broken || gap.0) gap.1 list (kept-gap Scalars behind_scalar (c ∷ rest) s gap e) g
+turn-whole more end nest broken c rest list holds s None e g =
     let token = bind_ok (token_at nest c rest) (λ x. with_token (record { place = c.place; broken = broken; kind = x.kind }) (more x.nest false x.rest)) list g in
     let behind = bind_ok (more token.0.nest false token.0.rest) (λ list. Ok (record { place = c.place; broken = broken; kind = token.0.kind } ∷ list)) list token.2 in
-    let held = token_at-holds nest c rest token.0 token.1 in
-    let others = holds token.0.nest false token.0.rest behind.0 behind.1 in
+    let held = token_at-holds nest c rest token.0 s token.1 in
+    let others = holds token.0.nest false token.0.rest behind.0 (kept-token Scalars behind_scalar nest c rest s.1 token.0 token.1) behind.1 in
     subst (Whole (length nest.parts) end) (ok_same _ list behind.2) (record {
       ends = ends-more end (record { place = c.place; broken = broken; kind = token.0.kind }) behind.0 held.inner others.ends;
       nested = ap (if_some (λ parts. are_nested parts behind.0)) held.nests ∙ others.nested;
     })
 
-tokens_at-whole : (n end : ℕ) (nest : Nest) (broken : Bool) (chars : List Placed) (list : List Token) → tokens_at n end nest broken chars ≡ Ok list → Whole (length nest.parts) end list
+tokens_at-whole : (n end : ℕ) (nest : Nest) (broken : Bool) (chars : List Placed) (list : List Token) → Scalars chars → tokens_at n end nest broken chars ≡ Ok list → Whole (length nest.parts) end list
 unfolding tokens_at
-tokens_at-whole zero end nest broken chars list h = at_end-whole nest.parts end broken list h
-tokens_at-whole (suc n) end nest broken [] list h = at_end-whole nest.parts end broken list h
-tokens_at-whole (suc n) end nest broken (c ∷ rest) list h =
+tokens_at-whole zero end nest broken chars list s h = at_end-whole nest.parts end broken list h
+tokens_at-whole (suc n) end nest broken [] list s h = at_end-whole nest.parts end broken list h
+tokens_at-whole (suc n) end nest broken (c ∷ rest) list s h =
     let read = bind_ok (gap_at (c ∷ rest)) (turn (tokens_at n end) nest broken c rest) list h in
-    turn-whole (tokens_at n end) end nest broken c rest list (tokens_at-whole n end) read.0 read.2
+    turn-whole (tokens_at n end) end nest broken c rest list (tokens_at-whole n end) s read.0 read.1 read.2
 
 -- The tokens of a text end with the one `End`, at its length, and their stretches of templates nest.
 tokens_of-whole : (bytes : List ℕ) (list : List Token) → tokens_of bytes ≡ Ok list → Whole 0 (length bytes) list
 unfolding tokens_of tokens_in
 tokens_of-whole bytes list h =
     let text = bind_ok (checked_text bytes) (λ text. tokens_in (length text) (with_places 0 (chars text))) list h in
-    let whole = tokens_at-whole (length (with_places 0 (chars text.0))) (length text.0) outside false (with_places 0 (chars text.0)) list text.2 in
-    subst (λ (t : List ℕ). Whole 0 (length t) list) (sym (checked-same bytes text.0 text.1).0) whole
+    let checked = checked-same bytes text.0 text.1 in
+    let scalar = with_places-scalars 0 (chars text.0) (scalars-chars text.0 (subst IsUtf8 checked.0 checked.1)) in
+    let whole = tokens_at-whole (length (with_places 0 (chars text.0))) (length text.0) outside false (with_places 0 (chars text.0)) list scalar text.2 in
+    subst (λ (t : List ℕ). Whole 0 (length t) list) (sym checked.0) whole
 
 pub tokens_of-ends : (bytes : List ℕ) (list : List Token) → tokens_of bytes ≡ Ok list → EndsAt (length bytes) list
 tokens_of-ends bytes list h = (tokens_of-whole bytes list h).ends

@@ -4,11 +4,11 @@ use Rattle.js_token.specs.declared.token.Token.{Token}
 use Rattle.js_token.specs.declared.token.TokenKind.{TokenKind}
 use Rattle.js_token.specs.declared.token.TokenKind.TheVariants.{Name, Word, Number, Text, Piece, Mark, End}
 use Rattle.js_token.specs.Marks.{marks}
-use Rattle.js_token.specs.Words.{is_word}
+use Rattle.js_token.specs.Words.{is_word, is_name}
 
--- A token before the end: a name isn't empty and is no word, a number is at most 2^53 - 1, and a mark has its number.
+-- A token before the end: a name is one, a word is one, a number is at most 2^53 - 1, and a mark has its number.
 abbrev pub IsInner : TokenKind → Type 0
-IsInner (Name text) = (0 < length text) × (is_word text ≡ false)
+IsInner (Name text) = is_name text ≡ true
 IsInner (Word text) = is_word text ≡ true
 IsInner (Number value) = (n : ℕ) × (value ≡ pos n) × (n ≤ 9_007_199_254_740_991)
 IsInner (Text text) = Unit {0}

@@ -4,8 +4,8 @@ ghost use Rattle.js_token.specs.declared.token.Token.{Token};
 ghost use Rattle.js_token.specs.Lists.{EndsAt, AscendFrom, are_nested};
 ghost use Rattle.js_token.specs.Tokens.{tokens_of};
 
-/// The tokens of a text end with the one `End`, at the text's length; before it each name has a unit and is no word,
-/// each word is one, each number is at most 2^53 - 1, and each mark has one of the marks' numbers.
+/// The tokens of a text end with the one `End`, at the text's length; before it each name is one by `is_name`, each
+/// word is one, each number is at most 2^53 - 1, and each mark has one of the marks' numbers.
 pub fn tokens_end_once()
     ensures { (bytes : List ℕ) (list : List Token) → tokens_of bytes ≡ Ok list → EndsAt (length bytes) list }
 {}

@@ -1,4 +1,6 @@
 //! The numbers of the marks, which are the punctuators of a script (ECMA-262, 12.8).
+ghost use Rattle.std.specs.Prelude.{◌≡◌, [], ◌∷◌, map};
+ghost use Rattle.js_token.specs.Marks.{marks, mark_number};
 
 /// `{`
 pub const OPEN_BRACE: u8 = 0;
@@ -86,3 +88,13 @@ pub const INCREMENT: u8 = 40;
 pub const DECREMENT: u8 = 41;
 /// `=>`
 pub const ARROW: u8 = 42;
+
+/// A law: in their order, the constants are the numbers of the marks.
+pub fn numbers_of_marks()
+    ensures { OPEN_BRACE ∷ CLOSE_BRACE ∷ OPEN_PAREN ∷ CLOSE_PAREN ∷ OPEN_BRACKET ∷ CLOSE_BRACKET ∷ SEMICOLON ∷
+        COMMA ∷ DOT ∷ ELLIPSIS ∷ LESS ∷ GREATER ∷ LESS_EQUAL ∷ GREATER_EQUAL ∷ STRICT_EQUAL ∷
+        STRICT_NOT_EQUAL ∷ PLUS ∷ MINUS ∷ STAR ∷ SLASH ∷ PERCENT ∷ SHIFT_LEFT ∷ SHIFT_RIGHT ∷
+        SHIFT_RIGHT_UNSIGNED ∷ BIT_AND ∷ BIT_OR ∷ BIT_XOR ∷ NOT ∷ BIT_NOT ∷ AND ∷ OR ∷ COALESCE ∷
+        QUESTION ∷ COLON ∷ ASSIGN ∷ ADD_ASSIGN ∷ SUBTRACT_ASSIGN ∷ MULTIPLY_ASSIGN ∷ DIVIDE_ASSIGN ∷
+        REMAINDER_ASSIGN ∷ INCREMENT ∷ DECREMENT ∷ ARROW ∷ [] ≡ map mark_number marks }
+{}

@@ -1,5 +1,5 @@
 -- A turn of a search along a chain of prototypes.
-use Rattle.std.proofs.Common.{◌≡◌, ℕ, zero, suc, ◌+◌, ◌-◌, ◌<◌, ◌≤◌, [], ◌∷◌, take, drop, get_or, slice_get, IsSomeAnd, arith, true, false, is_some, if◌then◌else◌, length, nat_lt, List, Some, None, Option, ap, ◌∙◌, refl, sym, subst, nat_eq, option_map}
+use Rattle.std.proofs.Common.{◌≡◌, ℕ, zero, suc, ◌+◌, ◌-◌, ◌<◌, ◌≤◌, [], ◌∷◌, take, drop, slice_get, IsSomeAnd, arith, true, false, is_some, if◌then◌else◌, length, nat_lt, List, Some, None, Option, ap, ◌∙◌, refl, sym, subst, nat_eq, option_map}
 use Rattle.world_heap.specs.declared.cell.Cell.{Cell}
 use Rattle.wl_text.specs.Number.{index_of}
 use Rattle.world_heap.specs.declared.cell.Body.{Body}
@@ -11,7 +11,7 @@ use Rattle.world_heap.specs.Over.{OptionOver}
 use Rattle.world_heap.specs.Heaps.{proto_of, buffer_length, IsNoEnv, IsCell, IsWithin, Fits}
 use Rattle.world_heap.proofs.Wells.{no_env_stands, fits_proto, found_stands}
 use Rattle.proto_props.specs.declared.own.Look.{Look}
-use Rattle.proto_props.specs.declared.own.Look.TheVariants.{Own, Past, End, Next}
+use Rattle.proto_props.specs.declared.own.Look.TheVariants.{Own, Past, Next}
 use Rattle.proto_props.specs.Own.{is_length, is_index_below, onward, look_in, look_at, look}
 use Rattle.std.specs.Option.{option_and_then}
 use Rattle.proto_props.specs.Chains.{search, taken}
@@ -21,7 +21,7 @@ pub turn : (cells : List (ℕ × Cell ℕ)) (key : List ℕ) (n m l : ℕ) (c : 
     → search nat_eq cells key n l ≡ taken (search nat_eq cells key m) l (Some seen)
 turn cells key n m l c seen e f s =
     ap (λ k. search nat_eq cells key k l) e ∙ ap (λ o. taken (search nat_eq cells key m) l (option_map (λ d. look d key) o)) f
-        ∙ ap (λ x. taken (search nat_eq cells key m) l (Some x)) (sym s)
+    ∙ ap (λ x. taken (search nat_eq cells key m) l (Some x)) (sym s)
 
 onward_proto : (o : Option ℕ) (p : ℕ) → onward o ≡ Next p → o ≡ Some p
 onward_proto None p h = absurd (cc)

@@ -1,5 +1,5 @@
 -- Reading a property (ECMA-262, 10.1.5 and 10.1.8: ordinary objects; 10.4.2: arrays; 10.4.3: strings; 10.4.5: views).
-use Rattle.std.specs.Prelude.{◌≡◌, ℕ, ◌+◌, min, Bool, true, false, not, pos, List, [], ◌∷◌, length, Option, Some, None, if◌then◌else◌, slice_get, slice_index, nat_lt, nat_eq, option_map}
+use Rattle.std.specs.Prelude.{ℕ, ◌+◌, min, Bool, true, false, not, pos, List, [], ◌∷◌, length, Option, Some, None, if◌then◌else◌, slice_get, slice_index, nat_lt, option_map}
 use Rattle.std.specs.Option.{option_and_then, option_map_or}
 use Rattle.wl_text.specs.Number.{index_of}
 use Rattle.world_heap.specs.declared.value.Value.{Value}

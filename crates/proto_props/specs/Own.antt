@@ -1,15 +1,10 @@
 -- The own properties of a cell (ECMA-262, 10.1.5: ordinary objects; 10.4.2: arrays; 10.4.5: views).
-use Rattle.std.specs.Prelude.{◌≡◌, ℕ, ◌+◌, Bool, true, false, not, ℤ, pos, List, length, Option, Some, None, is_some, if◌then◌else◌, slice_get, slice_index, codes, nat_eq, nat_lt, option_map}
-use Rattle.std.specs.Option.{option_and_then, option_map_or}
+use Rattle.std.specs.Prelude.{ℕ, Bool, false, List, length, Option, Some, None, is_some, if◌then◌else◌, codes, nat_eq, nat_lt}
 use Rattle.std.specs.Cmp.Lexicographic.{pointwise}
 use Rattle.wl_text.specs.Number.{index_of}
-use Rattle.world_heap.specs.declared.value.Value.TheVariants.{Num}
-use Rattle.world_heap.specs.declared.value.Property.{Property}
-use Rattle.world_heap.specs.declared.value.Property.TheVariants.{Data, Access}
 use Rattle.world_heap.specs.declared.cell.Body.{Body}
 use Rattle.world_heap.specs.declared.cell.Cell.{Cell}
-use Rattle.world_heap.specs.declared.cell.Cell.TheVariants.{Array, Buffer, View}
-use Rattle.world_heap.specs.Maps.{find}
+use Rattle.world_heap.specs.declared.cell.Cell.TheVariants.{Array, View}
 use Rattle.world_heap.specs.Table.{found_under}
 use Rattle.world_heap.specs.Bodies.{body_of}
 use Rattle.proto_props.specs.declared.own.Look.{Look}

@@ -1,5 +1,5 @@
 -- Deleting a property (ECMA-262, 10.1.10: ordinary objects; 10.4.2: arrays; 10.4.5.6: views).
-use Rattle.std.specs.Prelude.{◌≡◌, ℕ, Bool, true, false, List, length, Option, Some, None, if◌then◌else◌, nat_lt, nat_eq}
+use Rattle.std.specs.Prelude.{ℕ, Bool, true, false, List, length, Option, Some, None, if◌then◌else◌, nat_lt, nat_eq}
 use Rattle.std.specs.Option.{option_and_then, option_map_or}
 use Rattle.wl_text.specs.Number.{index_of}
 use Rattle.world_heap.specs.declared.value.Property.{Property}

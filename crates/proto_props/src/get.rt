@@ -101,12 +101,7 @@ fn own_told(alloc: Global, heap: &Heap, cell: &Cell, key: &Units) -> Result<Got,
 }
 
 // What the property gives that a search has found.
-fn reached_told(
-    alloc: Global,
-    heap: &Heap,
-    reach: Reach,
-    key: &Units,
-) -> Result<Got, AllocError>
+fn reached_told(alloc: Global, heap: &Heap, reach: Reach, key: &Units) -> Result<Got, AllocError>
     requires { ReachStands heap.now.cells reach }
     ensures { IfOk result (λ got. got ≡ got_at nat_eq heap.now.cells key.now reach) }
 {

@@ -2,7 +2,7 @@
 ghost use Rattle.std.specs.Prelude.{◌≡◌, Some, if◌then◌else◌, option_map, nat_eq};
 ghost use Rattle.world_heap.specs.Table.{found_under};
 ghost use Rattle.std.specs.Option.{option_and_then};
-ghost use Rattle.world_heap.specs.Maps.{find};
+ghost use Rattle.world_heap.specs.Maps.{keys, find};
 ghost use Rattle.world_heap.specs.Heaps.{IsCell, IsWell};
 ghost use Rattle.world_heap.specs.Bodies.{body_of, HasBody, rebodied};
 ghost use Rattle.proto_props.specs.Removes.{removal_of, removal, removal_from, is_gone, after_removal, cells_without};
@@ -20,6 +20,9 @@ pub enum Removal {
     Fixed,
     Free,
 }
+
+/// Lets a value go. A generic function keeps the cases of its drop out of its callers' proofs.
+pub fn discard<T: Drop>(_value: T) {}
 
 // What becomes of a property of a body.
 fn body_removal(body: &Body, key: &Units) -> Removal
@@ -85,8 +88,8 @@ fn blank(alloc: Global, heap: &Heap, loc: Loc) -> Body
     }
 }
 
-// Takes the body of a cell out, and leaves it without its properties.
-fn bared(alloc: Global, heap: &mut Heap, loc: Loc) -> Body
+/// Takes the body of a cell out, and leaves it without its properties.
+pub fn bared(alloc: Global, heap: &mut Heap, loc: Loc) -> Body
     requires { HasBody heap.old.cells loc }
     ensures was { option_and_then body_of (find nat_eq heap.old.cells loc) ≡ Some result }
     ensures is { heap.new ≡ record heap.old { cells = rebodied heap.old.cells loc (bare result) } }
@@ -103,7 +106,7 @@ fn take_out(alloc: Global, heap: &mut Heap, loc: Loc, key: &Units)
 {
     let mut body = bared(alloc, heap, loc);
     body.properties.remove(key);
-    let _ = heap.replace_body(loc, body);
+    discard(heap.replace_body(loc, body));
 }
 
 /// Deletes an own property. It answers false exactly where the property may not be removed, and the heap is then as it
@@ -112,6 +115,7 @@ pub fn delete(alloc: Global, heap: &mut Heap, loc: Loc, key: &Units) -> bool
     requires { IsCell nat_eq heap.old.cells loc }
     ensures told { result ≡ is_gone (removal_from heap.old.cells loc key.now) }
     ensures is { heap.new ≡ record heap.old { cells = after_removal (removal_from heap.old.cells loc key.now) heap.old.cells loc key.now } }
+    ensures keys { keys heap.new.cells ≡ keys heap.old.cells }
 {
     match cell_removal(heap.cell(loc), key) {
         Removal::Absent => true,

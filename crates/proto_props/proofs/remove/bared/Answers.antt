@@ -1,5 +1,4 @@
 use Rattle.std.proofs.Common.{◌≡◌, ◌∙◌, Some, sym, ap, subst, nat_eq, option_map}
-use Rattle.world_heap.specs.declared.cell.Body.{Body}
 use Rattle.world_heap.specs.Heaps.{IsWell}
 use Rattle.world_heap.specs.Bodies.{rebodied}
 use Rattle.proto_props.specs.Bared.{bare}

@@ -1,7 +1,7 @@
-use Rattle.std.proofs.Common.{◌≡◌, ◌∙◌, Some, refl, sym, ap, subst, nat_eq}
+use Rattle.std.proofs.Common.{◌≡◌, ◌∙◌, refl, sym, ap, subst, nat_eq}
 use Rattle.world_heap.specs.declared.cell.Body.{Body}
 use Rattle.world_heap.specs.Over.{BodyOver, PropertyOver}
-use Rattle.world_heap.specs.Heaps.{IsNoEnv, IsWell}
+use Rattle.world_heap.specs.Heaps.{IsNoEnv}
 use Rattle.world_heap.specs.Bodies.{HasBody, rebodied}
 use Rattle.world_heap.specs.Views.{HeapView}
 use Rattle.proto_props.specs.Bared.{bare}
@@ -32,7 +32,7 @@ returns c =
     let d : Body _ = body_without b c.args.key.now in
     let is = ap (λ (v : HeapView). v.cells) c.bared-body.ensures.is in
     let new : rebodied c.bared-body.new.heap.cells c.args.loc (record b { properties = c.remove.new.self }) ≡ cells_without cells c.args.loc c.args.key.now =
-        (λ i. rebodied (is i) c.args.loc (record b { properties = c.remove.ensures i }))
-            ∙ rebodied_twice cells c.args.loc b c.bared-body.ensures.was (bare b) d
-            ∙ sym (without_is cells c.args.loc b c.bared-body.ensures.was c.args.key.now) in
+    (λ i. rebodied (is i) c.args.loc (record b { properties = c.remove.ensures i }))
+    ∙ rebodied_twice cells c.args.loc b c.bared-body.ensures.was (bare b) d
+    ∙ sym (without_is cells c.args.loc b c.bared-body.ensures.was c.args.key.now) in
     c.replace_body.ensures.is ∙ (λ i. record (c.bared-body.ensures.is i) { cells = new i })
