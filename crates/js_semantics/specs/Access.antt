@@ -84,7 +84,7 @@ module _ {L : Type 0} where
 
   -- an environment with the parameters, and the function in it
   abbrev pub run_function : Option Function → L → Value L → List (Value L) → Cont L → Prog L
-  run_function None env receiver arguments k = throw NotAFunction
+  run_function None env receiver arguments k = bind (throw NotAFunction) (leave k)
   run_function (Some function) env receiver arguments k =
       Read (λ w. alloc (env_cell (Some env) (parameters_of w.tree (patterns_of function))) (λ inner. bind (run_body function arguments (record { env = inner; receiver = receiver })) (leave k)))
 
