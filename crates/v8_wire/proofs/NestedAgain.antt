@@ -64,9 +64,6 @@ ends A ports nodes inner begun put P xs t t' w met r tag end_bytes node starts o
     let s = contents_at-turn inner q.0 (begun xs) r.met' rest (End node, r.met', tail) q.1 (last tail) in
     ap (λ (bytes : List ℕ). contents_at inner (length bytes) (begun []) met bytes) regrouped ∙ q.2 ∙ s.2
 
-pub no-nodes : (ports : ℕ) (nodes : List PNode) (met : Met) (t : Tally) → Agrees ports nodes met t → t.items ≤ 1_000_000
-no-nodes ports nodes met t a = a.items_few
-
 module _ (ports : ℕ) (nodes : List PNode) (inner : ItemReader) (put : Item → Written → Written) (visit : Item → Tally → Option Tally) (again : InnerAgain ports nodes inner put visit) where
   array-nest : (xs : List Item) (t t' : Tally) (w : Written) (met : Met) → list_all is_plain_item xs ≡ true → in_turn visit xs t ≡ Some t' → w.nodes ≡ t.nodes → Agrees ports nodes met t
       → NestAgain ports nodes inner put (kinds.Array xs) t t' w met
