@@ -1,6 +1,6 @@
 -- Reading, writing and removing properties, with the functions that they call, and calls of functions (ECMA-262, 7.3.2:
 -- Get; 7.3.4: Set; 7.3.14: Call; 10.2.1: calls of closures; 10.2.11: their declarations).
-use Rattle.std.specs.Prelude.{ℕ, ◌+◌, ◌-◌, List, [], ◌∷◌, ◌++◌, map, nat_lt, option_map, option_to_list, Option, Some, None, unwrap_or, Bool, true, false, if◌then◌else◌, slice_get}
+use Rattle.std.specs.Prelude.{ℕ, ◌+◌, ◌-◌, List, [], ◌∷◌, ◌++◌, map, nat_lt, option_to_list, Option, Some, None, unwrap_or, Bool, true, false, if◌then◌else◌, slice_get}
 use Rattle.std.specs.Option.{option_and_then}
 use Rattle.world_heap.specs.declared.value.Value.{Value}
 use Rattle.world_heap.specs.declared.value.Value.TheVariants.{Undefined, Bool as Boolean, Ref}
@@ -16,7 +16,10 @@ use Rattle.js_tree.specs.declared.node.Node.TheVariants as kinds
 use Rattle.js_semantics.specs.declared.fault.Fault.TheVariants.{NotAFunction, NotAnObject, ReadOnly, TooManyCalls, NotDefined, NotReady}
 use Rattle.js_semantics.specs.World.{World, Scope, built_in, cell_of, with_cell}
 use Rattle.js_semantics.specs.Prog.{Prog, Cont, Outcome, Normal, Return, Break, Continue, Thrown, End, Enter, Read, Write, Bind, Native, Node as NodeRequest, bind, on_value, eval, alloc, change, count_places, give, throw, make_text}
-use Rattle.js_semantics.specs.Properties.{Got, Gives, Makes, CallsGetter, Absent, Change, Writes, CallsSetter, Refuses, Deletion, Leaves, Removes, Keeps, get_step, set_on, delete_step, define_step, holder}
+use Rattle.proto_props.specs.declared.get.Got.{Got}
+use Rattle.proto_props.specs.declared.get.Got.TheVariants.{Value as Given, CallGetter, Absent, Refused}
+use Rattle.proto_props.specs.Gets.{gets}
+use Rattle.js_semantics.specs.Properties.{Change, Writes, Stays, CallsSetter, Refuses, Deletion, Leaves, Removes, Keeps, made_of, has_property, set_on, delete_step, define_step}
 use Rattle.js_semantics.specs.Environments.{binding_of, bind_in, parameters_of, env_cell}
 
 -- the function of a node
@@ -81,7 +84,7 @@ module _ {L : Type 0} where
 
   -- an environment with the parameters, and the function in it
   abbrev pub run_function : Option Function → L → Value L → List (Value L) → Cont L → Prog L
-  run_function None env receiver arguments k = throw NotAFunction
+  run_function None env receiver arguments k = bind (throw NotAFunction) (leave k)
   run_function (Some function) env receiver arguments k =
       Read (λ w. alloc (env_cell (Some env) (parameters_of w.tree (patterns_of function))) (λ inner. bind (run_body function arguments (record { env = inner; receiver = receiver })) (leave k)))
 
@@ -101,19 +104,20 @@ module _ {L : Type 0} where
   unfoldable pub call : Value L → Value L → List (Value L) → (Value L → Prog L) → Prog L
   call callee receiver arguments k = Read (λ w. call_cell (cell_of callee w) receiver arguments k)
 
-  abbrev pub take_up : Option (Got L) → Value L → (Value L → Prog L) → Prog L
-  take_up None of k = throw NotAnObject
-  take_up (Some (Gives v)) of k = k v
-  take_up (Some (Makes text)) of k = make_text text k
-  take_up (Some (CallsGetter get)) of k = call (Ref get) of [] k
-  take_up (Some Absent) of k = k Undefined
+  -- goes on with what a property gives; a unit of a string is made
+  abbrev pub take_up : Got L → Value L → List ℕ → (Value L → Prog L) → Prog L
+  take_up (Given v) of key k = elim (made_of of key) [ Some text ↦ make_text text k | None ↦ k v ]
+  take_up (CallGetter get) of key k = call (Ref get) of [] k
+  take_up Absent of key k = k Undefined
+  take_up Refused of key k = throw NotAnObject
 
   -- Reads a property of a value; a getter is called with the value as its receiver.
   unfoldable pub get : Value L → List ℕ → (Value L → Prog L) → Prog L
-  get of key k = Read (λ w. take_up (get_step of key w) of k)
+  get of key k = Read (λ w. take_up (gets w.same w.heap of key) of key k)
 
   abbrev pub carry_out : Change L → Value L → Value L → Prog L → Prog L
   carry_out (Writes loc cell places) of v p = count_places places (change (with_cell loc cell) p)
+  carry_out Stays of v p = p
   carry_out (CallsSetter set) of v p = call (Ref set) of (v ∷ []) (λ u. p)
   carry_out (Refuses fault) of v p = throw fault
 
@@ -142,7 +146,7 @@ module _ {L : Type 0} where
 
   -- what the global object says of a name
   abbrev pub global_holder : List ℕ → World L → Option (Value L)
-  global_holder name w = option_and_then (λ global. option_map (λ found. Ref global) (holder global name w)) (built_in Global w)
+  global_holder name w = option_and_then (λ global. if has_property global name w then Some (Ref global) else None) (built_in Global w)
 
   -- a property of the global object that has it; a name that stands nowhere comes to `absent`
   abbrev pub read_global : Option (Value L) → List ℕ → Prog L → (Value L → Prog L) → Prog L

@@ -1,5 +1,5 @@
 -- The rows of expressions (ECMA-262, 13): names, literals, templates, operators, properties and assignments.
-use Rattle.std.specs.Prelude.{ℕ, zero, suc, List, [], ◌∷◌, ◌++◌, length, ℤ, pos, ◌+ℤ◌, ◌-ℤ◌, Option, Some, None, is_some, Bool, true, false, if◌then◌else◌, slice_get, codes}
+use Rattle.std.specs.Prelude.{ℕ, zero, suc, List, [], ◌∷◌, ◌++◌, length, ℤ, pos, ◌+ℤ◌, ◌-ℤ◌, Option, Some, None, Bool, true, false, if◌then◌else◌, slice_get, codes}
 use Rattle.std.specs.Option.{option_and_then}
 use Rattle.world_heap.specs.declared.value.Value.{Value}
 use Rattle.world_heap.specs.declared.value.Value.TheVariants.{Undefined, Null, Bool as Boolean, Num, Str, Ref}
@@ -17,7 +17,7 @@ use Rattle.js_tree.specs.declared.node.Node.TheVariants as kinds
 use Rattle.js_semantics.specs.declared.fault.Fault.TheVariants.{NotAnObject, WrongOperand, NotDefined}
 use Rattle.js_semantics.specs.World.{World, Scope, cell_at, cell_of}
 use Rattle.js_semantics.specs.Prog.{Prog, Read, eval, step, give, throw, make_text}
-use Rattle.js_semantics.specs.Properties.{holder, object_of}
+use Rattle.js_semantics.specs.Properties.{has_property, object_of}
 use Rattle.js_semantics.specs.Operators.{Computed, Is, Makes, Fails, is_truthy, primitive_text, key_of, strictly_equal, whole, of_operands, unary_of}
 use Rattle.js_semantics.specs.Access.{get, set, delete, read_name, write_name}
 
@@ -163,7 +163,7 @@ module _ {L : Type 0} where
   ])) else throw WrongOperand)
 
   abbrev pub has_key : Option (List ℕ) → Option L → World L → (Value L → Prog L) → Prog L
-  has_key (Some key) (Some loc) w k = k (Boolean (is_some (holder loc key w)))
+  has_key (Some key) (Some loc) w k = k (Boolean (has_property loc key w))
   has_key other object w k = throw WrongOperand
 
   -- what an operator gives for two operands

@@ -1,7 +1,6 @@
 pub mod World
 pub mod Faults
 pub mod Prog
-pub mod Bodies
 pub mod Properties
 pub mod Environments
 pub mod Operators

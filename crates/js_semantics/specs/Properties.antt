@@ -1,8 +1,9 @@
--- Properties of objects, as steps over the heap (ECMA-262, 10.1: ordinary objects; 10.4.2: arrays; 7.3: operations).
---     own, holder      the own property;  the first one on the chain of prototypes, with its object
---     get_step, set_step, define_step, delete_step
-use Rattle.std.specs.Prelude.{ℕ, zero, suc, ◌==◌, List, [], ◌∷◌, ◌++◌, length, take, map, pos, negsuc, Option, Some, None, Bool, true, false, not, if◌then◌else◌, nat_eq, nat_lt, nat_le, slice_get, slice_set, codes, option_map, is_some}
-use Rattle.std.specs.Option.{option_and_then}
+-- Writing, defining and removing properties, as steps over the heap, and how reading one goes on (ECMA-262, 10.1: ordinary
+-- objects; 10.4.2: arrays; 10.4.5: views; 7.3: operations).
+use Rattle.std.specs.Prelude.{ℕ, ◌+◌, ◌-◌, ◌%◌, ◌==◌, List, [], ◌∷◌, ◌++◌, length, take, ℤ, pos, negsuc, Option, Some, None, Bool, true, false, if◌then◌else◌, nat_eq, nat_lt, nat_le, slice_set}
+use Rattle.std.specs.List.{flat_map}
+use Rattle.std.specs.Map.{keys_of}
+use Rattle.std.specs.Option.{option_and_then, option_map_or}
 use Rattle.std.specs.Cmp.Lexicographic.{pointwise}
 use Rattle.wl_text.specs.Number.{index_of}
 use Rattle.world_heap.specs.declared.value.Value.{Value}
@@ -11,26 +12,27 @@ use Rattle.world_heap.specs.declared.value.Property.{Property}
 use Rattle.world_heap.specs.declared.value.Property.TheVariants.{Data, Access}
 use Rattle.world_heap.specs.declared.cell.Body.{Body}
 use Rattle.world_heap.specs.declared.cell.Cell.{Cell}
-use Rattle.world_heap.specs.declared.cell.Cell.TheVariants.{Object, Array, Closure, Native, Far, Error, Map, Set, Promise, Port, Buffer, View, Symbol, Env}
-use Rattle.world_heap.specs.declared.builtin.BuiltIn.TheVariants.{StringPrototype}
-use Rattle.world_heap.specs.Table.{found_under, put_under, left_without}
-use Rattle.world_heap.specs.Heaps.{proto_of}
-use Rattle.js_semantics.specs.Bodies.{body_of, with_body}
+use Rattle.world_heap.specs.declared.cell.Cell.TheVariants.{Array, Buffer, View, Symbol}
+use Rattle.world_heap.specs.Table.{found_under, put_under}
+use Rattle.world_heap.specs.Bodies.{body_of, with_body, with_byte}
+use Rattle.world_heap.specs.Keys.{ordered_names}
+use Rattle.proto_props.specs.declared.chain.Reach.{Reach}
+use Rattle.proto_props.specs.declared.chain.Reach.TheVariants.{Has, Past, Nowhere}
+use Rattle.proto_props.specs.declared.remove.Removal.{Removal}
+use Rattle.proto_props.specs.declared.remove.Removal.TheVariants as removals
+use Rattle.proto_props.specs.Own.{is_length}
+use Rattle.proto_props.specs.Chains.{search, holder}
+use Rattle.proto_props.specs.Gets.{own_property, text_unit}
+use Rattle.proto_props.specs.Removes.{removal, body_without}
 use Rattle.js_semantics.specs.declared.fault.Fault.{Fault}
-use Rattle.js_semantics.specs.declared.fault.Fault.TheVariants.{NotAnObject, ReadOnly, NoHoles}
-use Rattle.js_semantics.specs.World.{World, built_in, cell_at}
+use Rattle.js_semantics.specs.declared.fault.Fault.TheVariants.{NotAnObject, ReadOnly, WrongOperand, NoHoles}
+use Rattle.js_semantics.specs.World.{World, cell_at}
 
--- What reading a property comes to: its value, a unit of a string, a function to be called, or nothing.
-pub data Got (L : Type 0) : Type 0 where
-  Gives : Value L → Got L
-  Makes : List ℕ → Got L
-  CallsGetter : L → Got L
-  Absent : Got L
-
--- What changing a property comes to: another cell in the place of the object's, with so many places more; a function to
--- be called; or an error.
+-- What changing a property comes to: another cell at a location, with so many places more; nothing; a function to be
+-- called; or an error.
 pub data Change (L : Type 0) : Type 0 where
   Writes : L → Cell L → ℕ → Change L
+  Stays : Change L
   CallsSetter : L → Change L
   Refuses : Fault → Change L
 
@@ -40,11 +42,13 @@ pub data Deletion (L : Type 0) : Type 0 where
   Removes : L → Cell L → Deletion L
   Keeps : Deletion L
 
-abbrev pub length_key : List ℕ
-length_key = codes "length"
-
 abbrev pub same_text : List ℕ → List ℕ → Bool
 same_text a b = pointwise nat_eq a b
+
+-- the byte that a number is, modulo 256 (ECMA-262, 7.1.11: ToUint8)
+abbrev pub byte_of : ℤ → ℕ
+byte_of (pos n) = n % 256
+byte_of (negsuc n) = 255 - n % 256
 
 module _ {L : Type 0} where
   -- a property that can be written, listed and removed
@@ -55,46 +59,10 @@ module _ {L : Type 0} where
   abbrev pub member : Value L → Property L
   member v = Data v true false true
 
-  -- An array's elements and its length; an element can't be removed alone.
-  abbrev pub own_of_array : List (Value L) → Bool → List ℕ → Option ℕ → Option (Property L)
-  own_of_array items frozen key None =
-      if same_text key length_key then Some (Data (Num (pos (length items))) (not frozen) false false) else None
-  own_of_array items frozen key (Some i) = option_map (λ v. Data v (not frozen) true false) (slice_get items i)
-
-  -- the own property under a key
-  unfoldable pub own : Cell L → List ℕ → Option (Property L)
-  own (Array proto items frozen) key = own_of_array items frozen key (index_of key)
-  own (Object b) key = found_under b.properties key
-  own (Closure b n e r) key = found_under b.properties key
-  own (Native b i vs) key = found_under b.properties key
-  own (Far b n) key = found_under b.properties key
-  own (Error b k) key = found_under b.properties key
-  own (Map b es) key = found_under b.properties key
-  own (Set b vs) key = found_under b.properties key
-  own (Promise b s rs) key = found_under b.properties key
-  own (Port b n h ms cs) key = found_under b.properties key
-  own (Buffer b bs) key = found_under b.properties key
-  own (View b l o n) key = found_under b.properties key
-  own (Symbol t) key = None
-  own (Env o bs) key = None
-
   -- whether a location is that of a symbol, which is no object
   abbrev pub is_symbol : Option (Cell L) → Bool
-  is_symbol None = false
   is_symbol (Some (Symbol t)) = true
-  is_symbol (Some (Object b)) = false
-  is_symbol (Some (Array p vs f)) = false
-  is_symbol (Some (Closure b n e r)) = false
-  is_symbol (Some (Native b i vs)) = false
-  is_symbol (Some (Far b n)) = false
-  is_symbol (Some (Error b k)) = false
-  is_symbol (Some (Map b es)) = false
-  is_symbol (Some (Set b vs)) = false
-  is_symbol (Some (Promise b s rs)) = false
-  is_symbol (Some (Port b n h ms cs)) = false
-  is_symbol (Some (Buffer b bs)) = false
-  is_symbol (Some (View b l o n)) = false
-  is_symbol (Some (Env o bs)) = false
+  is_symbol other = false
 
   -- the location of an object
   abbrev pub object_of : Value L → World L → Option L
@@ -105,45 +73,22 @@ module _ {L : Type 0} where
   object_of (Str t) w = None
   object_of (Ref loc) w = if is_symbol (cell_at loc w) then None else Some loc
 
-  -- goes on at the prototype
-  abbrev pub further : Option (Cell L) → L → List ℕ → (L → Option (L × Property L)) → Option (L × Property L)
-  further None loc key on = None
-  further (Some cell) loc key on = elim (own cell key) [ Some p ↦ Some (loc, p) | None ↦ option_and_then on (proto_of cell) ]
+  -- where the search for a key from an object on ends
+  unfoldable pub reach : L → List ℕ → World L → Reach L
+  reach loc key w = search w.same w.heap key (length w.heap) loc
 
-  -- the first property on the chain of prototypes, which has at most so many objects
-  abbrev pub holder_within : ℕ → L → List ℕ → World L → Option (L × Property L)
-  holder_within zero loc key w = None
-  holder_within (suc n) loc key w = further (cell_at loc w) loc key (λ next. holder_within n next key w)
+  -- whether an object or one on its chain of prototypes has a property
+  abbrev pub has_property : L → List ℕ → World L → Bool
+  has_property loc key w = option_map_or (λ at. true) (holder (reach loc key w)) false
 
-  -- the first property on the chain of prototypes, with the object that has it
-  unfoldable pub holder : L → List ℕ → World L → Option (L × Property L)
-  holder loc key w = holder_within (length w.heap) loc key w
+  -- the property of an object under a key
+  unfoldable pub property_at : L → List ℕ → World L → Option (Property L)
+  property_at loc key w = option_and_then (λ cell. own_property w.same w.heap cell key) (cell_at loc w)
 
-  abbrev pub got_of : Option (L × Property L) → Got L
-  got_of None = Absent
-  got_of (Some (loc, Data v w e c)) = Gives v
-  got_of (Some (loc, Access (Some get) set e c)) = CallsGetter get
-  got_of (Some (loc, Access None set e c)) = Absent
-
-  -- a property that is found from an object on, where there is one
-  abbrev pub get_from : Option L → List ℕ → World L → Got L
-  get_from None key w = Absent
-  get_from (Some loc) key w = got_of (holder loc key w)
-
-  -- a string's length, its units, and what it inherits (ECMA-262, 10.4.3)
-  abbrev pub get_of_text : List ℕ → List ℕ → Option ℕ → World L → Got L
-  get_of_text text key None w =
-      if same_text key length_key then Gives (Num (pos (length text))) else get_from (built_in StringPrototype w) key w
-  get_of_text text key (Some i) w = elim (slice_get text i) [ Some unit ↦ Makes (unit ∷ []) | None ↦ get_from (built_in StringPrototype w) key w ]
-
-  -- Get (ECMA-262, 7.3.2). Undefined and null have no properties at all.
-  unfoldable pub get_step : Value L → List ℕ → World L → Option (Got L)
-  get_step Undefined key w = None
-  get_step Null key w = None
-  get_step (Boolean b) key w = Some Absent
-  get_step (Num n) key w = Some Absent
-  get_step (Str text) key w = Some (get_of_text text key (index_of key) w)
-  get_step (Ref loc) key w = Some (get_from (Some loc) key w)
+  -- the unit of a string that reading it makes a text of
+  abbrev pub made_of : Value L → List ℕ → Option (List ℕ)
+  made_of (Str text) key = if is_length key then None else text_unit text key
+  made_of other key = None
 
   -- a property under its key, with a place where the key is new
   abbrev pub with_property : Body L → List ℕ → Property L → Body L
@@ -169,6 +114,8 @@ module _ {L : Type 0} where
   abbrev pub add_step : Option (Cell L) → L → List ℕ → Value L → Change L
   add_step None loc key v = Refuses ReadOnly
   add_step (Some (Array proto items frozen)) loc key v = added_item proto items frozen loc (index_of key) v
+  add_step (Some (Buffer body bytes)) loc key v = Refuses ReadOnly
+  add_step (Some (View body buffer offset count)) loc key v = Refuses ReadOnly
   add_step (Some cell) loc key v = added_to (body_of cell) cell loc key (plain v)
 
   -- an array that is cut to a length
@@ -196,18 +143,39 @@ module _ {L : Type 0} where
   rewrite_step (Some (Array proto items frozen)) loc key v e c = rewritten_item proto items loc (index_of key) v
   rewrite_step (Some cell) loc key v e c = rewritten_body (body_of cell) cell loc key (Data v true e c)
 
-  -- Set (ECMA-262, 10.1.9), where this is the property that is found on the chain.
-  abbrev pub set_over : Option (L × Property L) → L → List ℕ → Value L → World L → Change L
-  set_over None loc key v w = add_step (cell_at loc w) loc key v
-  set_over (Some (at, Data old false e c)) loc key v w = Refuses ReadOnly
-  set_over (Some (at, Data old true e c)) loc key v w =
+  -- Set (ECMA-262, 10.1.9.2), where this is the property that the search has found.
+  abbrev pub set_over : L → Option (Property L) → L → List ℕ → Value L → World L → Change L
+  set_over at None loc key v w = add_step (cell_at loc w) loc key v
+  set_over at (Some (Data old false e c)) loc key v w = Refuses ReadOnly
+  set_over at (Some (Data old true e c)) loc key v w =
       if w.same at loc then rewrite_step (cell_at loc w) loc key v e c else add_step (cell_at loc w) loc key v
-  set_over (Some (at, Access get (Some set) e c)) loc key v w = CallsSetter set
-  set_over (Some (at, Access get None e c)) loc key v w = Refuses ReadOnly
+  set_over at (Some (Access get (Some set) e c)) loc key v w = CallsSetter set
+  set_over at (Some (Access get None e c)) loc key v w = Refuses ReadOnly
+
+  -- an index past the end of a view on the chain is no property, and nothing is written
+  abbrev pub set_reached : Reach L → L → List ℕ → Value L → World L → Change L
+  set_reached (Has at) loc key v w = set_over at (property_at at key w) loc key v w
+  set_reached Past loc key v w = Stays
+  set_reached Nowhere loc key v w = add_step (cell_at loc w) loc key v
+
+  -- a byte of a buffer
+  abbrev pub write_byte : Option (Cell L) → L → ℕ → ℕ → Change L
+  write_byte None buffer at byte = Stays
+  write_byte (Some cell) buffer at byte = Writes buffer (with_byte cell at byte) 0
+
+  -- 10.4.5.5 [[Set]] of a view: a number at an index is a byte of its buffer, and past the end nothing is written
+  abbrev pub set_byte : L → (offset count index : ℕ) → Value L → World L → Change L
+  set_byte buffer offset count index (Num z) w =
+      if nat_lt index count then write_byte (cell_at buffer w) buffer (offset + index) (byte_of z) else Stays
+  set_byte buffer offset count index other w = Refuses WrongOperand
+
+  abbrev pub set_in : Option (Cell L) → Option ℕ → L → List ℕ → Value L → World L → Change L
+  set_in (Some (View body buffer offset count)) (Some index) loc key v w = set_byte buffer offset count index v w
+  set_in cell index loc key v w = set_reached (reach loc key w) loc key v w
 
   -- Set on an object.
   unfoldable pub set_step : L → List ℕ → Value L → World L → Change L
-  set_step loc key v w = set_over (holder loc key w) loc key v w
+  set_step loc key v w = set_in (cell_at loc w) (index_of key) loc key v w
 
   -- Set on a value: a string, number, boolean or symbol takes no property, and undefined and null are no objects.
   abbrev pub set_on : Value L → List ℕ → Value L → World L → Change L
@@ -245,22 +213,20 @@ module _ {L : Type 0} where
 
   abbrev pub without : Option (Body L) → Cell L → L → List ℕ → Deletion L
   without None cell loc key = Leaves
-  without (Some b) cell loc key = Removes loc (with_body cell (record b { properties = left_without b.properties key }))
+  without (Some b) cell loc key = Removes loc (with_body cell (body_without b key))
 
-  abbrev pub deleted : Option (Property L) → Cell L → L → List ℕ → Deletion L
-  deleted None cell loc key = Leaves
-  deleted (Some (Data v w e true)) cell loc key = without (body_of cell) cell loc key
-  deleted (Some (Data v w e false)) cell loc key = Keeps
-  deleted (Some (Access g s e true)) cell loc key = without (body_of cell) cell loc key
-  deleted (Some (Access g s e false)) cell loc key = Keeps
+  abbrev pub deleted : Removal → Cell L → L → List ℕ → Deletion L
+  deleted removals.Absent cell loc key = Leaves
+  deleted removals.Fixed cell loc key = Keeps
+  deleted removals.Free cell loc key = without (body_of cell) cell loc key
 
   abbrev pub deleted_at : Option (Cell L) → L → List ℕ → Deletion L
   deleted_at None loc key = Leaves
-  deleted_at (Some cell) loc key = deleted (own cell key) cell loc key
+  deleted_at (Some cell) loc key = deleted (removal cell key) cell loc key
 
-  abbrev pub deleted_unit : List ℕ → List ℕ → Option ℕ → Deletion L
-  deleted_unit text key None = if same_text key length_key then Keeps else Leaves
-  deleted_unit text key (Some i) = if nat_lt i (length text) then Keeps else Leaves
+  -- a string's length and its units stay
+  abbrev pub deleted_unit : List ℕ → List ℕ → Deletion L
+  deleted_unit text key = if is_length key then Keeps else option_map_or (λ unit. Keeps) (text_unit text key) Leaves
 
   -- Delete (ECMA-262, 13.5.1.2). Undefined and null have no properties at all.
   unfoldable pub delete_step : Value L → List ℕ → World L → Option (Deletion L)
@@ -268,24 +234,9 @@ module _ {L : Type 0} where
   delete_step Null key w = None
   delete_step (Boolean b) key w = Some Leaves
   delete_step (Num n) key w = Some Leaves
-  delete_step (Str text) key w = Some (deleted_unit text key (index_of key))
+  delete_step (Str text) key w = Some (deleted_unit text key)
   delete_step (Ref loc) key w = Some (deleted_at (cell_at loc w) loc key)
 
--- Keys in order: array indices ascending, then the others as they were put (ECMA-262, 10.1.11.1).
-module _ {V : Type 0} where
-  -- an entry among those with a lower or a higher index
-  abbrev pub among : ℕ → List ℕ × V → List (ℕ × (List ℕ × V)) → List (ℕ × (List ℕ × V))
-  among i e [] = (i, e) ∷ []
-  among i e (first ∷ rest) = if nat_lt i first.0 then (i, e) ∷ first ∷ rest else first ∷ among i e rest
-
-  abbrev pub indexed : List (List ℕ × V) → List (ℕ × (List ℕ × V))
-  indexed [] = []
-  indexed (e ∷ es) = elim (index_of e.0) [ Some i ↦ among i e (indexed es) | None ↦ indexed es ]
-
-  abbrev pub named : List (List ℕ × V) → List (List ℕ × V)
-  named [] = []
-  named (e ∷ es) = if is_some (index_of e.0) then named es else e ∷ named es
-
-  -- entries in the order of their keys
-  unfoldable pub in_key_order : List (List ℕ × V) → List (List ℕ × V)
-  in_key_order entries = map (λ p. p.1) (indexed entries) ++ named entries
+-- the entries of a body in the order of their keys (ECMA-262, 10.1.11.1)
+unfoldable pub in_key_order : {V : Type 0} → List (List ℕ × V) → List (List ℕ × V)
+in_key_order entries = flat_map (λ key. option_map_or (λ v. (key, v) ∷ []) (found_under entries key) []) (ordered_names (keys_of entries))
