@@ -366,7 +366,7 @@ const FAULTS: [FaultRow; 52] = [
         place: 4,
     },
     FaultRow {
-        text: "`a${ b ;",
+        text: "`a${ b ; }c`;",
         place: 7,
     },
     FaultRow {
