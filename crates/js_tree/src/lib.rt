@@ -3,6 +3,7 @@
 
 mod copies;
 mod node;
+mod order;
 mod tree;
 
 pub use node::{

@@ -80,3 +80,14 @@ fn nodes_with_lists_and_texts_are_copied(rt: HostRuntime) -> Result<(), Fail> {
     assert!(rt; found);
     Ok(())
 }
+
+#[test]
+fn a_list_of_nodes_is_a_tree_where_children_stand_before_their_parents(
+    rt: HostRuntime,
+) -> Result<(), Fail> {
+    let ordered = vec![in rt.alloc(); (Node::This, 2), (Node::Throw(NodeId(0)), 0)]?;
+    assert!(rt; Tree::from_nodes(ordered).is_some());
+    let turned = vec![in rt.alloc(); (Node::Throw(NodeId(1)), 0), (Node::This, 2)]?;
+    assert!(rt; Tree::from_nodes(turned).is_none());
+    Ok(())
+}

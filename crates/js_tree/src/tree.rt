@@ -1,5 +1,5 @@
 //! A syntax tree.
-ghost use Rattle.std.specs.Prelude.{◌≡◌, ◌<◌, ◌+◌, ◌^◌, ◌-◌, ◌↔◌, [], ◌∷◌, ◌++◌, length, IsTrue, IfOk, OnErr, MatchOption};
+ghost use Rattle.std.specs.Prelude.{◌≡◌, ◌<◌, ◌≤◌, ◌+◌, ◌^◌, ◌-◌, ◌↔◌, [], ◌∷◌, ◌++◌, length, IsTrue, IfOk, OnErr, MatchOption};
 ghost use Rattle.js_tree.specs.Nodes.{node_at, place_at, StandsBelow, IsTree};
 
 use crate::node::{Node, NodeId};
@@ -37,6 +37,24 @@ impl Tree {
         Tree {
             nodes: Vec::new(alloc),
         }
+    }
+
+    /// The tree with these nodes, each with the byte offset of its first token. There is none exactly where some child
+    /// doesn't stand before its parent or there are 2^32 nodes or more. It takes time in proportion to the nodes and
+    /// their children.
+    pub fn from_nodes(nodes: Vec<(Node, u32)>) -> Option<Tree>
+        ensures { MatchOption result (IsTree nodes.items → 2 ^ 32 ≤ length nodes.items) (λ tree. tree ≡ nodes.items) }
+    {
+        let count = nodes.len();
+        if count > u32::MAX as usize {
+            return None;
+        }
+        'nodes: for at in 0..count {
+            if !nodes[at].0.children_below(at as u32) {
+                return None;
+            }
+        }
+        Some(Tree { nodes })
     }
 
     /// Adds a node whose first token is at the byte offset `place`, and gives its number. For want of memory the

@@ -1,0 +1,21 @@
+-- A recursion on a count of turns, beside a loop that counts up.
+use Rattle.std.proofs.Common.{◌≡◌, ℕ, suc, ◌+◌, ◌-◌, ◌<◌, ◌≤◌, ◌≢◌, ap, ◌∙◌, arith, refl}
+use Rattle.std.proofs.lemmas.Bool.{ne_eqb}
+use Rattle.js_parse.specs.Grammar.{below}
+
+-- in a turn
+pub one_more : {X : Type 0} {x : X} (f : ℕ → X) (n at : ℕ) → at < n → x ≡ f (n - at) → x ≡ f (suc (n - (at + 1)))
+one_more f n at below e = let turn : n - at ≡ suc (n - (at + 1)) = omega arith in e ∙ ap f turn
+
+-- behind the last
+pub no_more : {X : Type 0} {x : X} (f : ℕ → X) (n at : ℕ) → n ≤ at → x ≡ f (n - at) → x ≡ f 0
+no_more f n at done e = let none : n - at ≡ 0 = omega arith in e ∙ ap f none
+
+-- one level less
+pub deeper : {X : Type 0} (f : ℕ → X) (n : ℕ) → 0 < n → f n ≡ f (suc (n - 1))
+deeper f n some = let e : n ≡ suc (n - 1) = omega arith in ap f e
+
+-- Operands of operators up to level 9 have the level below.
+pub below_less : (level : ℕ) → level ≤ 9 → below level ≡ level - 1
+unfolding below
+below_less level few = let other : level ≢ 11 = omega arith in rw (ne_eqb level 11 other) refl
