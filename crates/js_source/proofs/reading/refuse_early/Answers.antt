@@ -1,6 +1,6 @@
-use Rattle.std.proofs.Common.{◌≡◌, Err, subst}
+use Rattle.std.proofs.Common.{Err, subst}
 use Rattle.js_scope.specs.Faults.{faults, Checked}
-use Rattle.js_source.proofs.Early.{first_within, first_told}
+use Rattle.js_source.proofs.Early.{first_within}
 use Rattle.js_source.proofs.reading.refuse_early.Goals as goal
 
 pub place-requires : goal.place-requires
