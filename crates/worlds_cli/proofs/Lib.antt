@@ -1,3 +1,4 @@
+pub mod ConvertReading
 pub mod Ending
 pub mod Items
 pub mod Printed

@@ -11,7 +11,7 @@ use Rattle.worlds_cli.specs.Answer.{answer_to, checks, first_refusal, files_read
 use Rattle.worlds_cli.specs.Clauses.{Stops, StopsAt}
 use Rattle.worlds_cli.specs.Command.{Command, run}
 use Rattle.worlds_cli.specs.declared.status.Status.{Status}
-use Rattle.worlds_cli.specs.declared.status.Status.TheVariants.{Done, Memory, Words, FolderFault, Absent, Script, SinkFault, TooLong}
+use Rattle.worlds_cli.specs.declared.status.Status.TheVariants.{Done, Memory, Words, FolderFault, Absent, Json, Shape, Script, SinkFault, Wire, TooLong}
 use Rattle.worlds_cli.proofs.Stopping.{stops_at, run_accepted}
 
 -- A count that rose later rose.
@@ -23,6 +23,9 @@ pub Stops-then : (files : Option Files) (command : Command) (A B : Type 0) (stat
 Stops-then files command A B Memory f stops = tt
 Stops-then files command A B (FolderFault name) f stops = (f stops.0, stops.1)
 Stops-then files command A B (Absent name) f stops = stops
+Stops-then files command A B (Json name) f stops = stops
+Stops-then files command A B (Shape name key) f stops = stops
+Stops-then files command A B (Wire place kind) f stops = stops
 Stops-then files command A B (Script name place kind) f stops = stops
 Stops-then files command A B (TooLong name limit) f stops = stops
 Stops-then files command A B Done f stops = stops

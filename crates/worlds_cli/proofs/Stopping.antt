@@ -13,7 +13,7 @@ use Rattle.worlds_cli.specs.Answer.{answer_to, checks, output, files_read, first
 use Rattle.worlds_cli.specs.Clauses.{Stops, StopsAt, IsReached}
 use Rattle.worlds_cli.specs.Command.{Command, run}
 use Rattle.worlds_cli.specs.declared.status.Status.{Status}
-use Rattle.worlds_cli.specs.declared.status.Status.TheVariants.{Done, Memory, Words, FolderFault, Absent, Script, SinkFault, TooLong}
+use Rattle.worlds_cli.specs.declared.status.Status.TheVariants.{Done, Memory, Words, FolderFault, Absent, Json, Shape, Script, SinkFault, Wire, TooLong}
 
 abbrev pub Checks : Type 0
 Checks = List (List ℕ × Option Status)
@@ -70,6 +70,9 @@ module _ (command : Command) (front back : Files → Checks) (file : List ℕ) (
   stops_at files folder (FolderFault name) none read stops =
       rw stops.1 (stops.0, (read, reached_told files none))
   stops_at files folder (Absent name) none read stops = refuses_told files (Absent name) none stops
+  stops_at files folder (Json name) none read stops = refuses_told files (Json name) none stops
+  stops_at files folder (Shape name key) none read stops = refuses_told files (Shape name key) none stops
+  stops_at files folder (Wire place kind) none read stops = refuses_told files (Wire place kind) none stops
   stops_at files folder (Script name place kind) none read stops = refuses_told files (Script name place kind) none stops
   stops_at files folder (TooLong name limit) none read stops = refuses_told files (TooLong name limit) none stops
   stops_at files folder Done none read stops = absurd stops

@@ -6,7 +6,7 @@ use Rattle.worlds_cli.specs.Answer.{answer, answer_to, checks, files_read, first
 use Rattle.worlds_cli.specs.Command.{Command, command_of}
 use Rattle.worlds_cli.specs.Text.{told}
 use Rattle.worlds_cli.specs.declared.status.Status.{Status}
-use Rattle.worlds_cli.specs.declared.status.Status.TheVariants.{Done, Memory, Words, FolderFault, Absent, Script, SinkFault, TooLong}
+use Rattle.worlds_cli.specs.declared.status.Status.TheVariants.{Done, Memory, Words, FolderFault, Absent, Json, Shape, Script, SinkFault, Wire, TooLong}
 
 -- A file that a command reads, and none before its first place is refused.
 abbrev pub IsReached : Option Files → Command → List ℕ → Type 0
@@ -37,6 +37,9 @@ Ends files words folder sink Words before now = (command_of words ≡ None) × (
 Ends files words folder sink (FolderFault file) before now =
     folder × IsReachedBy files words file × (now ≡ with_more (told (FolderFault file)) before)
 Ends files words folder sink (Absent file) before now = IsRefused files words (Absent file) before now
+Ends files words folder sink (Json file) before now = IsRefused files words (Json file) before now
+Ends files words folder sink (Shape file key) before now = IsRefused files words (Shape file key) before now
+Ends files words folder sink (Wire place kind) before now = IsRefused files words (Wire place kind) before now
 Ends files words folder sink (Script file place kind) before now = IsRefused files words (Script file place kind) before now
 Ends files words folder sink SinkFault before now = sink × TakesPart files words folder before now
 Ends files words folder sink (TooLong file limit) before now = IsRefused files words (TooLong file limit) before now
@@ -46,6 +49,9 @@ abbrev pub Stops : Option Files → Command → Type 0 → Status → Type 0
 Stops files command folder Memory = Unit {0}
 Stops files command folder (FolderFault file) = folder × IsReached files command file
 Stops files command folder (Absent file) = IfSome files (λ files. answer_to files command ≡ Err (Absent file))
+Stops files command folder (Json file) = IfSome files (λ files. answer_to files command ≡ Err (Json file))
+Stops files command folder (Shape file key) = IfSome files (λ files. answer_to files command ≡ Err (Shape file key))
+Stops files command folder (Wire place kind) = IfSome files (λ files. answer_to files command ≡ Err (Wire place kind))
 Stops files command folder (Script file place kind) = IfSome files (λ files. answer_to files command ≡ Err (Script file place kind))
 Stops files command folder (TooLong file limit) = IfSome files (λ files. answer_to files command ≡ Err (TooLong file limit))
 Stops files command folder Done = ⊥
@@ -57,6 +63,9 @@ abbrev pub StopsAt : Option (Option Status) → List ℕ → Type 0 → Status �
 StopsAt refusal file folder Memory = Unit {0}
 StopsAt refusal file folder (FolderFault name) = folder × (name ≡ file)
 StopsAt refusal file folder (Absent name) = IfSome refusal (λ first. first ≡ Some (Absent name))
+StopsAt refusal file folder (Json name) = IfSome refusal (λ first. first ≡ Some (Json name))
+StopsAt refusal file folder (Shape name key) = IfSome refusal (λ first. first ≡ Some (Shape name key))
+StopsAt refusal file folder (Wire place kind) = IfSome refusal (λ first. first ≡ Some (Wire place kind))
 StopsAt refusal file folder (Script name place kind) = IfSome refusal (λ first. first ≡ Some (Script name place kind))
 StopsAt refusal file folder (TooLong name limit) = IfSome refusal (λ first. first ≡ Some (TooLong name limit))
 StopsAt refusal file folder Done = ⊥
@@ -71,6 +80,9 @@ IsOfWriting sink Done = ⊥
 IsOfWriting sink Words = ⊥
 IsOfWriting sink (FolderFault file) = ⊥
 IsOfWriting sink (Absent file) = ⊥
+IsOfWriting sink (Json file) = ⊥
+IsOfWriting sink (Shape file key) = ⊥
+IsOfWriting sink (Wire place kind) = ⊥
 IsOfWriting sink (Script file place kind) = ⊥
 IsOfWriting sink (TooLong file limit) = ⊥
 
@@ -82,6 +94,9 @@ TellsAnswer SinkFault before now = Unit {0}
 TellsAnswer Words before now = now ≡ with_more (told Words) before
 TellsAnswer (FolderFault file) before now = now ≡ with_more (told (FolderFault file)) before
 TellsAnswer (Absent file) before now = now ≡ with_more (told (Absent file)) before
+TellsAnswer (Json file) before now = now ≡ with_more (told (Json file)) before
+TellsAnswer (Shape file key) before now = now ≡ with_more (told (Shape file key)) before
+TellsAnswer (Wire place kind) before now = now ≡ with_more (told (Wire place kind)) before
 TellsAnswer (Script file place kind) before now = now ≡ with_more (told (Script file place kind)) before
 TellsAnswer (TooLong file limit) before now = now ≡ with_more (told (TooLong file limit)) before
 

@@ -2,7 +2,7 @@
 use Rattle.std.specs.Prelude.{◌≡◌, ℕ, ◌<◌, List, length, Option, Some, IfSome, ◌⊎◌}
 use Rattle.wl_causes.specs.Reading.{Files}
 use Rattle.worlds_cli.specs.declared.status.Status.{Status}
-use Rattle.worlds_cli.specs.declared.status.Status.TheVariants.{Done, Memory, Words, FolderFault, Absent, Script, SinkFault, TooLong}
+use Rattle.worlds_cli.specs.declared.status.Status.TheVariants.{Done, Memory, Words, FolderFault, Absent, Json, Shape, Script, SinkFault, Wire, TooLong}
 
 -- a file of more bytes than its limit
 abbrev pub IsLonger : Option (List ℕ) → ℕ → Type 0
@@ -16,6 +16,9 @@ StopsReading files name limit folder (TooLong file most) = (file ≡ name) × (m
 StopsReading files name limit folder Done = ⊥
 StopsReading files name limit folder Words = ⊥
 StopsReading files name limit folder (Absent file) = ⊥
+StopsReading files name limit folder (Json file) = ⊥
+StopsReading files name limit folder (Shape file key) = ⊥
+StopsReading files name limit folder (Wire place kind) = ⊥
 StopsReading files name limit folder (Script file place kind) = ⊥
 StopsReading files name limit folder SinkFault = ⊥
 

@@ -2,6 +2,7 @@
 #![tactic(auto)]
 
 mod command;
+mod converting;
 mod reading;
 mod status;
 #[cfg(test)]

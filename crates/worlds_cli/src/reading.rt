@@ -1,13 +1,14 @@
 //! The files of a command: read, or refused.
-ghost use Rattle.std.specs.Prelude.{◌≡◌, ◌≤◌, ◌<◌, List, ℕ, Some, None, Ok, Err, length, option_map, option_and_then, IfOk, IfErr, IfSome, OnOk};
+ghost use Rattle.std.specs.Prelude.{◌≡◌, ◌≤◌, ◌<◌, List, ℕ, Option, Some, None, Ok, Err, length, option_map, option_and_then, IfOk, IfErr, IfSome, OnOk};
 ghost use Rattle.wl_causes.specs.Causes.{Rose};
 ghost use Rattle.js_meaning.specs.Form.{form_of};
 ghost use Rattle.js_meaning.specs.Log.{log_of};
 ghost use Rattle.world_log.specs.Print.{printed_log};
-ghost use Rattle.worlds_cli.specs.Answer.{answer_to, manifest_refusal, main_refusal, events_refusal};
+ghost use Rattle.worlds_cli.specs.Answer.{answer_to, required, manifest_refusal, main_refusal, events_refusal};
 ghost use Rattle.worlds_cli.specs.Clauses.{Stops, StopsAt};
 ghost use Rattle.worlds_cli.specs.Command.{run};
 ghost use Rattle.worlds_cli.specs.Reading.{StopsReading, IsOrMemory};
+ghost use Rattle.worlds_cli.specs.declared.status.Status.{Status};
 ghost use Rattle.worlds_cli.specs.declared.status.Status.TheVariants.{Absent, Script};
 ghost use Rattle.worlds_cli.specs.declared.status.ScriptKind.TheVariants.{NotBuilt};
 
@@ -83,9 +84,8 @@ fn read_main<F: Folder>(
     ensures err { IfErr result (StopsAt (option_map (λ files. main_refusal files name.now) (F.files folder.old)) name.now
         (Rose (F.faults folder.old) (F.faults folder.new))) }
 {
-    let bytes = match read_named(alloc, folder, name, SCRIPT_LIMIT) {
-        Ok(Some(bytes)) => bytes,
-        Ok(None) => return Err(absent(alloc, name)),
+    let bytes = match read_required(alloc, folder, name, SCRIPT_LIMIT) {
+        Ok(bytes) => bytes,
         Err(status) => return Err(status),
     };
     match read_form(alloc, bytes.as_slice()) {
@@ -104,15 +104,37 @@ fn check_events<F: Folder>(alloc: Global, folder: &mut F, name: &str) -> Result<
     ensures err { IfErr result (StopsAt (option_map (λ files. events_refusal files name.now) (F.files folder.old)) name.now
         (Rose (F.faults folder.old) (F.faults folder.new))) }
 {
-    let bytes = match read_named(alloc, folder, name, FILE_LIMIT) {
-        Ok(Some(bytes)) => bytes,
-        Ok(None) => return Err(absent(alloc, name)),
+    let bytes = match read_required(alloc, folder, name, FILE_LIMIT) {
+        Ok(bytes) => bytes,
         Err(status) => return Err(status),
     };
     if 0 < bytes.len() {
         return Err(not_built(alloc, name));
     }
     Ok(())
+}
+
+/// A file that must be there, of at most `limit` bytes, whatever is asked of what it holds.
+#[tactic(auto, unfolding(crate::specs::Answer::required))]
+pub fn read_required<F: Folder>(
+    alloc: Global,
+    folder: &mut F,
+    name: &str,
+    limit: u32,
+) -> Result<Vec<u8>, Status>
+    ensures files { F.files folder.new ≡ F.files folder.old }
+    ensures later { F.faults folder.old ≤ F.faults folder.new }
+    ensures short { IfOk result (λ bytes. length bytes.items ≤ limit) }
+    ensures found { IfOk result (λ bytes. IfSome (F.files folder.old) (λ files. files name.now ≡ Some bytes.items)) }
+    ensures err { IfErr result (λ status. (contents : List ℕ → Option Status)
+        → StopsAt (option_map (λ files. required name.now limit contents (files name.now)) (F.files folder.old)) name.now
+        (Rose (F.faults folder.old) (F.faults folder.new)) status) }
+{
+    match read_named(alloc, folder, name, limit) {
+        Ok(Some(bytes)) => Ok(bytes),
+        Ok(None) => Err(absent(alloc, name)),
+        Err(status) => Err(status),
+    }
 }
 
 // A file, where there is one.

@@ -5,6 +5,7 @@ ghost use Rattle.worlds_cli.specs.declared.status.Status.TheVariants.{Memory};
 
 use sqlite_items::Items;
 use std::alloc::{AllocError, AllocFailed};
+use v8_wire::WireKind;
 
 /// Why a script is refused.
 #[derive(Debug, Drop, Clone, Copy, PartialEq, Eq)]
@@ -30,6 +31,15 @@ pub enum Status {
     Absent {
         file: Items<u8>,
     },
+    /// A file isn't JSON.
+    Json {
+        file: Items<u8>,
+    },
+    /// A JSON value isn't of the form wanted; the key of the part that breaks it, `.` where it is the whole.
+    Shape {
+        file: Items<u8>,
+        key: Items<u8>,
+    },
     /// A script isn't taken, at this byte of the file and for this reason.
     Script {
         file: Items<u8>,
@@ -38,6 +48,11 @@ pub enum Status {
     },
     /// The output couldn't be written.
     SinkFault,
+    /// Bytes aren't those of a message, at this place and for this reason.
+    Wire {
+        place: u64,
+        kind: WireKind,
+    },
     /// A file has more bytes than its limit.
     TooLong {
         file: Items<u8>,
@@ -56,8 +71,10 @@ impl Status {
             Status::Words => 2,
             Status::FolderFault { .. } => 3,
             Status::Absent { .. } => 4,
+            Status::Json { .. } | Status::Shape { .. } => 5,
             Status::Script { .. } => 6,
             Status::SinkFault => 8,
+            Status::Wire { .. } => 9,
             Status::TooLong { .. } => 11,
         }
     }

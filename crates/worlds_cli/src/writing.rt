@@ -1,17 +1,18 @@
 //! The output of a command: written whole, or a front of it.
-ghost use Rattle.std.specs.Prelude.{◌≡◌, ◌≤◌, ◌++◌, IfErr, IfOk, OnOk};
+ghost use Rattle.std.specs.Prelude.{◌≡◌, ◌≤◌, ◌++◌, ◌∷◌, [], codes, IfErr, IfOk, OnOk};
 ghost use Rattle.wl_causes.specs.Causes.{Rose};
 ghost use Rattle.wl_causes.specs.Taking.{with_more, TakesFront};
 ghost use Rattle.js_meaning.specs.Log.{log_of, made_by};
 ghost use Rattle.world_log.specs.Print.{printed_log, printed, main_name};
 ghost use Rattle.world_log.specs.declared.entry.LogItem.TheVariants.{World};
 ghost use Rattle.worlds_cli.specs.Clauses.{IsOfWriting};
-ghost use Rattle.worlds_cli.specs.Text.{told, kind_word};
+ghost use Rattle.worlds_cli.specs.Text.{told, kind_word, wire_word};
 
 use crate::status::{ScriptKind, Status};
 use js_meaning::{Literal, display};
 use sqlite_items::Items;
 use std::alloc::{AllocError, Global};
+use v8_wire::WireKind;
 use wl_causes::{Sink, write_whole};
 use world_log::{Delivery, Entry, Level, LogItem, Product, WorldName, print};
 
@@ -82,6 +83,14 @@ fn told_line(alloc: Global, status: &Status) -> Result<Vec<u8>, AllocError>
             let rest = format!(in alloc; " {place} {word}\n")?;
             push_file(&mut line, b"! script ", file, rest.as_bytes())?;
         }
+        Status::Json { file } => push_file(&mut line, b"! json ", file, b"\n")?,
+        Status::Shape { file, key } => push_shape(&mut line, file, key)?,
+        Status::Wire { place, kind } => {
+            let place = *place;
+            let word = wire_word_of(*kind);
+            let rest = format!(in alloc; "! wire {place} {word}\n")?;
+            line.extend_from_slice(rest.as_bytes())?;
+        }
         Status::TooLong { file, limit } => {
             let limit = *limit;
             let rest = format!(in alloc; " {limit}\n")?;
@@ -106,12 +115,45 @@ fn push_file(
     Ok(())
 }
 
+// The line of a broken key.
+fn push_shape(line: &mut Vec<u8>, file: &Items<u8>, key: &Items<u8>) -> Result<(), AllocError>
+    ensures { OnOk result (line.new.items ≡ line.old.items ++ (codes "! shape " ++ (file.now ++ (32 ∷ key.now ++ 10 ∷ [])))) }
+{
+    push_file(line, b"! shape ", file, b" ")?;
+    line.extend_from_slice(key.as_slice())?;
+    line.push(b'\n')?;
+    Ok(())
+}
+
 // The word of a reason.
 fn word_of(kind: ScriptKind) -> &'static str
     ensures { result.now ≡ kind_word kind }
 {
     match kind {
         ScriptKind::NotBuilt => "notbuilt",
+    }
+}
+
+// The word of what is wrong with the bytes of a message.
+#[tactic(auto, unfolding(crate::specs::Text::wire_word))]
+fn wire_word_of(kind: WireKind) -> &'static str
+    ensures { result.now ≡ wire_word kind }
+{
+    match kind {
+        WireKind::Header => "header",
+        WireKind::Version => "version",
+        WireKind::Cut => "cut",
+        WireKind::Tag => "tag",
+        WireKind::Varint => "varint",
+        WireKind::Reference => "reference",
+        WireKind::Count => "count",
+        WireKind::Number => "number",
+        WireKind::Text => "text",
+        WireKind::Hole => "hole",
+        WireKind::Key => "key",
+        WireKind::Trailing => "trailing",
+        WireKind::TooLarge => "toolarge",
+        WireKind::View => "view",
     }
 }
 
@@ -168,8 +210,8 @@ fn line_of(alloc: Global, entry: Entry) -> Result<Vec<u8>, AllocError>
     print(alloc, &item)
 }
 
-// A line, written.
-fn write_line<K: Sink>(sink: &mut K, line: &[u8]) -> Result<(), Status>
+/// A line, written whole or a front of it.
+pub fn write_line<K: Sink>(sink: &mut K, line: &[u8]) -> Result<(), Status>
     ensures ok { OnOk result (K.taken sink.new ≡ with_more line.now (K.taken sink.old)) }
     ensures front { TakesFront line.now (K.taken sink.old) (K.taken sink.new) }
     ensures err { IfErr result (IsOfWriting (Rose (K.faults sink.old) (K.faults sink.new))) }

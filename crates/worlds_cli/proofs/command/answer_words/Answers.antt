@@ -6,6 +6,9 @@ use Rattle.worlds_cli.proofs.command.answer_words.Goals as goal
 pub returns-in-Run : goal.returns-in-Run
 returns-in-Run g c = c.play.ensures (spelled c.args.words.now) c.in-Run.ensures
 
+pub returns-in-Convert : goal.returns-in-Convert
+returns-in-Convert g c = c.convert_file.ensures (spelled c.args.words.now) c.in-Convert.ensures
+
 pub returns-in-Err : goal.returns-in-Err
 returns-in-Err g c =
     ends_telling_words (g.F.Folder.files c.args.folder.now) (spelled c.args.words.now)

@@ -1,0 +1,12 @@
+//! What scripts mean: the rows of the language (ECMA-262 over whole numbers), as definitions, and their laws.
+#![tactic(auto)]
+
+mod entry;
+mod fault;
+mod laws;
+mod native;
+
+pub use entry::{Delivery, Entry, Mode, Product, Stop};
+pub use fault::Fault;
+pub use laws::{agreeing, continued, determined, recursive, renaming};
+pub use native::Native;

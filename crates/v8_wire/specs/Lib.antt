@@ -1,0 +1,9 @@
+pub mod Faults
+pub mod Number
+pub mod Text
+pub mod Met
+pub mod Leaf
+pub mod Contents
+pub mod Item
+pub mod Takes
+pub mod Spelling

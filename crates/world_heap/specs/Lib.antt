@@ -1,0 +1,13 @@
+pub mod Table
+pub mod Maps
+pub mod Shelf
+pub mod Stored
+pub mod Over
+pub mod Heaps
+pub mod Bodies
+pub mod Views
+pub mod Bounded
+pub mod Growth
+pub mod BuiltIns
+pub mod Starting
+pub mod Keys

@@ -1,0 +1,71 @@
+//! What a world may use, and what it has used.
+ghost use Rattle.std.specs.Prelude.{◌≡◌, ◌≤◌};
+
+use std::alloc::{AllocError, AllocFailed};
+
+/// The greatest numbers of steps of a task, of cells, places and units of a world, and of its active calls. Each is
+/// from 1 to its default.
+#[derive(Debug, Drop, Clone, Copy, PartialEq, Eq)]
+pub struct Limits {
+    pub steps: u64,
+    pub cells: u64,
+    pub places: u64,
+    pub units: u64,
+    pub depth: u32,
+    pub ghost some_steps: { 1 ≤ steps },
+    pub ghost steps_bound: { steps ≤ 1_000_000 },
+    pub ghost some_cells: { 1 ≤ cells },
+    pub ghost cells_bound: { cells ≤ 250_000 },
+    pub ghost some_places: { 1 ≤ places },
+    pub ghost places_bound: { places ≤ 1_000_000 },
+    pub ghost some_units: { 1 ≤ units },
+    pub ghost units_bound: { units ≤ 16_777_216 },
+    pub ghost some_depth: { 1 ≤ depth },
+    pub ghost depth_bound: { depth ≤ 1_000 },
+}
+
+/// How many cells, places and units a world has made. They never fall.
+#[derive(Debug, Drop, Clone, Copy, PartialEq, Eq)]
+pub struct Counts {
+    pub cells: u64,
+    pub places: u64,
+    pub units: u64,
+}
+
+/// A count that would pass its limit.
+#[derive(Debug, Drop, Clone, Copy, PartialEq, Eq)]
+pub enum Full {
+    Places,
+    Units,
+}
+
+/// Why a heap doesn't grow: a count would pass its limit, or memory runs out.
+#[derive(Debug, Drop, Clone, Copy, PartialEq, Eq)]
+pub enum HeapFault {
+    Cells,
+    Places,
+    Units,
+    Memory,
+}
+
+impl From<AllocError> for HeapFault {
+    ghost use Rattle.std.specs.Prelude.{◌≡◌};
+    ghost use Rattle.world_heap.specs.declared.limits.HeapFault.TheVariants.{Memory};
+
+    ghost from_gives = { λ _ fault. fault ≡ Memory };
+
+    fn from(_error: AllocError) -> HeapFault {
+        HeapFault::Memory
+    }
+}
+
+impl<T: Drop> From<AllocFailed<T>> for HeapFault {
+    ghost use Rattle.std.specs.Prelude.{◌≡◌};
+    ghost use Rattle.world_heap.specs.declared.limits.HeapFault.TheVariants.{Memory};
+
+    ghost from_gives = { λ _ fault. fault ≡ Memory };
+
+    fn from(_error: AllocFailed<T>) -> HeapFault {
+        HeapFault::Memory
+    }
+}

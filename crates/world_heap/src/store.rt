@@ -1,0 +1,169 @@
+//! Values of several owners in one store of slots, each owner's in the order in which they came.
+ghost use Rattle.std.specs.Prelude.{◌≡◌, ℕ, ◌+◌, ◌<◌, ◌≤◌, ◌++◌, [], ◌∷◌, Some, None, false, length, replicate, position, slice_get, ◌==◌, sum_by, nat_eq, OnOk, OnErr, IfOk};
+ghost use Rattle.cell_chunks.specs.Slots.{vacancies};
+ghost use Rattle.world_heap.specs.Maps.{keys, find, put, without, stands, Stands};
+ghost use Rattle.world_heap.specs.Shelf.{values_of, IsAmong, Apart};
+ghost use Rattle.world_heap.specs.Stored.{owners, IsAt};
+
+use cell_chunks::{Chunks, Slot};
+use sqlite_items::Items;
+use std::alloc::{AllocError, Global};
+use std::marker::Model;
+
+/// The slots of one owner, in the order in which they were filled.
+#[derive(Drop)]
+pub struct Region {
+    pub owner: u32,
+    pub own: Items<u32>,
+}
+
+/// Values of several owners, seen as the list of the owners, each with the list of its values and their locations.
+#[derive(Drop)]
+pub struct Store<T> {
+    chunks: Chunks<T>,
+    regions: Vec<Region>,
+}
+
+impl<T> Model for Store<T> {
+    ghost use Rattle.std.specs.Prelude.{ℕ, List};
+    ghost use Rattle.std.specs.Coded.{coded_list, coded×, coded_ℕ};
+    ghost use Rattle.world_heap.specs.Stored.{maps, IsStored};
+
+    ghost Value = { List (ℕ × List (ℕ × T)) };
+
+    ghost coded = { coded_list (coded× coded_ℕ (coded_list (coded× coded_ℕ T.code))) };
+
+    ghost view = { λ store. maps store.chunks store.regions.items };
+
+    ghost invariant = { λ store. IsStored store.chunks store.regions.items };
+}
+
+/// Lets a value go. A generic function keeps the cases of its drop out of its callers' proofs.
+pub fn discard<T: Drop>(_value: T) {}
+
+// A vacant slot, where there is none, by a chunk more.
+fn make_room<T: Drop>(chunks: &mut Chunks<T>) -> Result<(), AllocError>
+    ensures room { OnOk result (0 < vacancies chunks.new) }
+    ensures more { (n : ℕ) × (chunks.new ≡ chunks.old ++ replicate n None) }
+    ensures err { OnErr result (chunks.new ≡ chunks.old) }
+{
+    if chunks.vacant() > 0 {
+        return Ok(());
+    }
+    if chunks.len() > 1024 * 4_194_302 {
+        return Err(AllocError);
+    }
+    chunks.add_chunk()?;
+    Ok(())
+}
+
+// The place of the first region of an owner, where there is one.
+fn region_place(regions: &[Region], owner: u32) -> Option<usize>
+    ensures { result ≡ position (λ region. region.owner == owner) regions.now }
+{
+    regions.iter().position(|region| region.owner == owner)
+}
+
+// The place of an owner's region.
+fn region_at(regions: &[Region], owner: u32) -> usize
+    requires { Stands (owners regions.now) owner }
+    ensures { IsAt regions.now owner result }
+{
+    match region_place(regions, owner) {
+        Some(at) => at,
+        None => unreachable!(),
+    }
+}
+
+impl<T: Drop> Store<T> {
+    /// No owner, and no chunk. It takes no memory.
+    pub fn new(alloc: Global) -> Store<T>
+        ensures { result ≡ [] }
+    {
+        Store {
+            chunks: Chunks::new(alloc),
+            regions: Vec::new(alloc),
+        }
+    }
+
+    /// Makes an owner without values.
+    pub fn open(&mut self, alloc: Global, owner: u32) -> Result<(), AllocError>
+        requires { stands nat_eq (keys self.old) owner ≡ false }
+        ensures ok { OnOk result (self.new ≡ self.old ++ (owner, []) ∷ []) }
+        ensures err { OnErr result (self.new ≡ self.old) }
+    {
+        self.regions.push(Region {
+            owner,
+            own: Items::new(alloc),
+        })?;
+        Ok(())
+    }
+
+    /// Adds a value behind the others of an owner, under a location that no owner has.
+    pub fn add(&mut self, owner: u32, value: T) -> Result<u32, AllocError>
+        requires { Stands (keys self.old) owner }
+        ensures added { IfOk result (λ l. self.new ≡ put nat_eq self.old owner (values_of self.old owner ++ (l, value) ∷ [])) }
+        ensures apart { IfOk result (λ l. Apart self.old l) }
+        ensures err { OnErr result (self.new ≡ self.old) }
+    {
+        make_room(&mut self.chunks)?;
+        let at = region_at(self.regions.as_slice(), owner);
+        match self.chunks.put(value) {
+            Ok(slot) => match self.regions[at].own.push(slot.0) {
+                Ok(()) => Ok(slot.0),
+                Err(error) => {
+                    discard(self.chunks.take(slot));
+                    Err(error)
+                }
+            },
+            Err(_) => unreachable!(),
+        }
+    }
+
+    /// The value at a location of some owner.
+    pub fn value(&self, loc: u32) -> &T
+        requires { (owner : ℕ) × IsAmong self.now owner loc }
+        ensures { (owner : ℕ) → IsAmong self.now owner loc → find nat_eq (values_of self.now owner) loc ≡ Some result.now }
+    {
+        self.chunks.get(Slot(loc))
+    }
+
+    /// Puts a value in the place of another, and gives that one back.
+    pub fn replace(&mut self, loc: u32, value: T) -> T
+        requires { (owner : ℕ) × IsAmong self.old owner loc }
+        ensures was { (owner : ℕ) → IsAmong self.old owner loc → find nat_eq (values_of self.old owner) loc ≡ Some result }
+        ensures is { (owner : ℕ) → IsAmong self.old owner loc
+            → self.new ≡ put nat_eq self.old owner (put nat_eq (values_of self.old owner) loc value) }
+    {
+        std::mem::replace(self.chunks.get_mut(Slot(loc)), value)
+    }
+
+    /// How many values there are.
+    pub fn filled(&self) -> usize
+        ensures { result ≡ sum_by (λ m. length m.1) self.now }
+    {
+        self.chunks.len() - self.chunks.vacant()
+    }
+
+    /// The location of one of an owner's values, by its place among them.
+    pub fn location(&self, owner: u32, at: usize) -> Option<u32>
+        ensures { result ≡ slice_get (keys (values_of self.now owner)) at }
+    {
+        match region_place(self.regions.as_slice(), owner) {
+            Some(place) => self.regions[place].own.get(at).copied(),
+            None => None,
+        }
+    }
+
+    /// Takes an owner away with all its values. The cost is linear in these.
+    pub fn close(&mut self, owner: u32)
+        requires { Stands (keys self.old) owner }
+        ensures { self.new ≡ without nat_eq self.old owner }
+    {
+        let at = region_at(self.regions.as_slice(), owner);
+        let mut region = self.regions.remove(at);
+        'values: while let Some(loc) = region.own.pop() {
+            discard(self.chunks.take(Slot(loc)));
+        }
+    }
+}
