@@ -1,11 +1,13 @@
 -- The tree of a script's text, or its first fault: of its tokens (ECMA-262, 12), else of the grammar (16.1), else the
 -- first early error in source order (17).
-use Rattle.std.specs.Prelude.{◌≡◌, ℕ, List, [], ◌∷◌, Result, Ok, Err}
+use Rattle.std.specs.Prelude.{◌≡◌, ℕ, List, [], ◌∷◌, ◌++◌, Result, Ok, Err}
 use Rattle.std.specs.Option.{unwrap_or}
 use Rattle.js_token.specs.declared.token.Token.{Token}
 use Rattle.js_token.specs.declared.token.LexFault.{LexFault}
 use Rattle.js_token.specs.declared.token.LexFault.TheVariants as lex
 use Rattle.js_token.specs.Tokens.{tokens_of}
+use Rattle.js_tree.specs.declared.node.NodeId.{NodeId}
+use Rattle.js_tree.specs.declared.node.Node.TheVariants.{Script}
 use Rattle.js_tree.specs.Nodes.{Nodes, place_at}
 use Rattle.js_parse.specs.declared.fault.ParseFault.{ParseFault}
 use Rattle.js_parse.specs.declared.fault.ParseFault.TheVariants as parse
@@ -62,3 +64,7 @@ abbrev pub Passes : Nodes → Result (Unit {0}) SourceFault → Type 0
 Passes nodes (Ok done) = checked nodes ≡ Ok nodes
 Passes nodes (Err (At place kind)) = checked nodes ≡ Err (At place kind)
 Passes nodes (Err Memory) = Unit {0}
+
+-- The last node is the script itself.
+abbrev pub HasRoot : Nodes → Type 0
+HasRoot nodes = (parts : Nodes) × (items : List NodeId) × (place : ℕ) × (nodes ≡ parts ++ (Script items, place) ∷ [])

@@ -1,6 +1,6 @@
 //! Reading of scripts.
-ghost use Rattle.std.specs.Prelude.{◌≡◌, ◌≤◌, length};
-ghost use Rattle.js_source.specs.Source.{source_of, checked, Answers, Passes};
+ghost use Rattle.std.specs.Prelude.{◌≡◌, ◌≤◌, length, IfOk};
+ghost use Rattle.js_source.specs.Source.{source_of, checked, Answers, Passes, HasRoot};
 
 use crate::fault::{SourceFault, early};
 use js_parse::parse;
@@ -36,7 +36,7 @@ fn refuse_early(alloc: Global, tree: &Tree) -> Result<(), SourceFault>
 
 /// The syntax tree of the script that the bytes are (ECMA-262, 12, 16.1 and 17, for the part of the language that is
 /// read here), or its first fault: that of its tokens, which are all scanned first; else that of the grammar; else
-/// the first early error in source order.
+/// the first early error in source order. The root of the tree, its last node, is the `Script`.
 ///
 /// There are at most 262,144 bytes. Tokens and early errors take time in proportion to the text, the grammar in
 /// proportion to the text times the levels that nest round a parenthesis.
@@ -50,7 +50,8 @@ fn refuse_early(alloc: Global, tree: &Tree) -> Result<(), SourceFault>
 #[tactic(auto, unfolding(crate::specs::Source::source_of))]
 pub fn read_source(alloc: Global, bytes: &[u8]) -> Result<Source, SourceFault>
     requires { length bytes.now ≤ 262_144 }
-    ensures { Answers result (source_of bytes.now) }
+    ensures exact { Answers result (source_of bytes.now) }
+    ensures root { IfOk result (λ source. HasRoot source.tree) }
 {
     let tokens = match tokens(alloc, bytes) {
         Ok(tokens) => tokens,
