@@ -1,0 +1,3 @@
+// a script
+const twice = (x) => x * 2;
+console.log(twice(21));
