@@ -1,4 +1,7 @@
 //! Why no line is printed.
+ghost use Rattle.std.specs.Prelude.{◌≡◌};
+ghost use Rattle.front_times.specs.Codes.{code_of};
+
 use std::alloc::AllocError;
 use wl_causes::{FolderFault, SinkFailed};
 
@@ -21,7 +24,9 @@ pub enum Failure {
 
 impl Failure {
     /// The number that the process ends with.
-    pub fn code(self) -> u8 {
+    pub fn code(self) -> u8
+        ensures { result ≡ code_of self }
+    {
         match self {
             Failure::Memory => 1,
             Failure::Words => 2,
