@@ -18,7 +18,8 @@ use Rattle.js_tree.specs.declared.node.PropertyKey.TheVariants.{Written, Compute
 use Rattle.js_tree.specs.declared.node.Node.{Node}
 use Rattle.js_tree.specs.declared.node.Node.TheVariants as kinds
 use Rattle.js_semantics.specs.declared.fault.Fault.TheVariants.{NotAConstructor}
-use Rattle.js_semantics.specs.World.{World, Scope, built_in, cell_of}
+use Rattle.js_semantics.specs.declared.scope.Scope.{Scope}
+use Rattle.js_semantics.specs.World.{World, built_in, cell_of}
 use Rattle.js_semantics.specs.Prog.{Prog, Enter, Read, Member, Native, on_value, eval, step, alloc, change, give, done, throw}
 use Rattle.js_semantics.specs.Properties.{plain, with_getter, with_setter, object_of}
 use Rattle.js_semantics.specs.Environments.{unready, env_cell, bind_in}

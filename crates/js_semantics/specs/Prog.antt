@@ -15,7 +15,8 @@ use Rattle.js_semantics.specs.declared.entry.Stop.TheVariants.{Cells, Units}
 use Rattle.js_semantics.specs.declared.entry.Mode.{Mode}
 use Rattle.js_semantics.specs.declared.entry.Product.{Product}
 use Rattle.js_semantics.specs.declared.entry.Product.TheVariants.{Stopped}
-use Rattle.js_semantics.specs.World.{World, Scope, built_in}
+use Rattle.js_semantics.specs.declared.scope.Scope.{Scope}
+use Rattle.js_semantics.specs.World.{World, built_in}
 use Rattle.js_semantics.specs.Faults.{kind_of, message_of, kind_number, prototype_of_kind}
 
 -- how the evaluation of a node ends: a value, a jump, or a thrown value

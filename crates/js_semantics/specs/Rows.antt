@@ -4,7 +4,7 @@ use Rattle.world_heap.specs.declared.value.Value.TheVariants.{Null, Bool as Bool
 use Rattle.js_tree.specs.declared.node.NodeId.{NodeId}
 use Rattle.js_tree.specs.declared.node.Node as nodes
 use Rattle.js_tree.specs.declared.node.Node.TheVariants as kinds
-use Rattle.js_semantics.specs.World.{Scope}
+use Rattle.js_semantics.specs.declared.scope.Scope.{Scope}
 use Rattle.js_semantics.specs.Prog.{Prog, Break, Continue, End, Read, Request, Step, Script, Node, Bind, Member, While, DoWhile, For, ForOf, Native, bind, on_value, give, done}
 use Rattle.js_semantics.specs.Expressions.{row_name, row_this, row_template, row_dot, row_index, row_update, row_unary, row_typeof, row_delete, row_binary, row_and, row_or, row_nullish, row_cond, row_seq, row_assign, row_assign_with}
 use Rattle.js_semantics.specs.Objects.{row_array, row_object, row_fun, row_arrow, row_call, row_new, member_of}

@@ -5,8 +5,10 @@ mod entry;
 mod fault;
 mod laws;
 mod native;
+mod scope;
 
 pub use entry::{Delivery, Entry, Mode, Product, Stop};
 pub use fault::Fault;
 pub use laws::{agreeing, continued, determined, recursive, renaming};
 pub use native::Native;
+pub use scope::Scope;
