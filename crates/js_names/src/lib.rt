@@ -8,3 +8,6 @@ mod place;
 pub use bind::{bind_in, fill_name};
 pub use declare::{declare_pattern, declared_in, parameters_of};
 pub use place::binding_of;
+
+#[cfg(test)]
+mod tests;
