@@ -1,0 +1,486 @@
+//! Operators as rows use them. The expected answers are those of ECMA-262, where a result that is no whole number from
+//! -(2^53-1) to 2^53-1 is an error.
+use crate::{
+    Answer, byte_of, is_truthy, key_of, made_text, moved, of_operands, point_end, primitive_text,
+    strictly_equal, unary_of,
+};
+use js_tree::{BinaryOperator, UnaryOperator, UpdateOperator};
+use std::alloc::{AllocError, Global};
+use std::test::Fail;
+use wl_text::Units;
+use world_heap::{Loc, Value};
+
+/// A value that stands in a table.
+#[derive(Clone, Copy)]
+enum Operand {
+    Undefined,
+    Null,
+    Bool(bool),
+    Num(i64),
+    Text(&'static str),
+    Object,
+}
+
+// A text of a table.
+fn text(alloc: Global, letters: &str) -> Result<Units, AllocError> {
+    match Units::of_text(alloc, letters) {
+        Ok(text) => Ok(text),
+        Err(_) => Err(AllocError),
+    }
+}
+
+fn value(alloc: Global, operand: Operand) -> Result<Value, AllocError> {
+    Ok(match operand {
+        Operand::Undefined => Value::Undefined,
+        Operand::Null => Value::Null,
+        Operand::Bool(truth) => Value::Bool(truth),
+        Operand::Num(number) => Value::Num(number),
+        Operand::Text(letters) => Value::Str(text(alloc, letters)?),
+        Operand::Object => Value::Ref(Loc::of(3)),
+    })
+}
+
+// An answer in words: a number, a boolean, `makes` and a text in quotes, or the message of an error.
+fn shown(alloc: Global, answer: &Answer) -> Result<String, AllocError> {
+    match answer {
+        Answer::Is(Value::Num(number)) => number.to_string(alloc),
+        Answer::Is(Value::Bool(truth)) => truth.to_string(alloc),
+        Answer::Is(_) => format!(in alloc; "another value"),
+        Answer::Makes(text) => {
+            let mut out = format!(in alloc; "makes ")?;
+            for byte in &text.quoted(alloc)? {
+                out.push(char::from(*byte))?;
+            }
+            Ok(out)
+        }
+        Answer::Fails(fault) => format!(in alloc; "{}", fault.message()),
+    }
+}
+
+/// An operator between two operands, and its answer.
+struct Row {
+    operator: BinaryOperator,
+    left: Operand,
+    right: Operand,
+    gives: &'static str,
+}
+
+const ROWS: [Row; 50] = [
+    Row {
+        operator: BinaryOperator::Add,
+        left: Operand::Num(9_007_199_254_740_990),
+        right: Operand::Num(1),
+        gives: "9007199254740991",
+    },
+    Row {
+        operator: BinaryOperator::Add,
+        left: Operand::Num(9_007_199_254_740_991),
+        right: Operand::Num(1),
+        gives: "not a whole number",
+    },
+    Row {
+        operator: BinaryOperator::Subtract,
+        left: Operand::Num(-9_007_199_254_740_991),
+        right: Operand::Num(1),
+        gives: "not a whole number",
+    },
+    Row {
+        operator: BinaryOperator::Add,
+        left: Operand::Num(i64::MAX),
+        right: Operand::Num(i64::MIN),
+        gives: "-1",
+    },
+    Row {
+        operator: BinaryOperator::Multiply,
+        left: Operand::Num(94_906_267),
+        right: Operand::Num(94_906_267),
+        gives: "not a whole number",
+    },
+    Row {
+        operator: BinaryOperator::Multiply,
+        left: Operand::Num(-94_906_265),
+        right: Operand::Num(94_906_265),
+        gives: "-9007199136250225",
+    },
+    Row {
+        operator: BinaryOperator::Multiply,
+        left: Operand::Num(i64::MIN),
+        right: Operand::Num(-1),
+        gives: "not a whole number",
+    },
+    Row {
+        operator: BinaryOperator::Multiply,
+        left: Operand::Num(-5),
+        right: Operand::Num(0),
+        gives: "0",
+    },
+    Row {
+        operator: BinaryOperator::Divide,
+        left: Operand::Num(-12),
+        right: Operand::Num(4),
+        gives: "-3",
+    },
+    Row {
+        operator: BinaryOperator::Divide,
+        left: Operand::Num(7),
+        right: Operand::Num(2),
+        gives: "not a whole number",
+    },
+    Row {
+        operator: BinaryOperator::Divide,
+        left: Operand::Num(7),
+        right: Operand::Num(0),
+        gives: "not a whole number",
+    },
+    Row {
+        operator: BinaryOperator::Divide,
+        left: Operand::Num(i64::MIN),
+        right: Operand::Num(-1),
+        gives: "not a whole number",
+    },
+    Row {
+        operator: BinaryOperator::Remainder,
+        left: Operand::Num(-7),
+        right: Operand::Num(3),
+        gives: "-1",
+    },
+    Row {
+        operator: BinaryOperator::Remainder,
+        left: Operand::Num(7),
+        right: Operand::Num(-3),
+        gives: "1",
+    },
+    Row {
+        operator: BinaryOperator::Remainder,
+        left: Operand::Num(i64::MIN),
+        right: Operand::Num(-1),
+        gives: "0",
+    },
+    Row {
+        operator: BinaryOperator::Remainder,
+        left: Operand::Num(7),
+        right: Operand::Num(0),
+        gives: "not a whole number",
+    },
+    Row {
+        operator: BinaryOperator::Less,
+        left: Operand::Num(2),
+        right: Operand::Num(2),
+        gives: "false",
+    },
+    Row {
+        operator: BinaryOperator::LessOrEqual,
+        left: Operand::Num(2),
+        right: Operand::Num(2),
+        gives: "true",
+    },
+    Row {
+        operator: BinaryOperator::Greater,
+        left: Operand::Num(2),
+        right: Operand::Num(2),
+        gives: "false",
+    },
+    Row {
+        operator: BinaryOperator::GreaterOrEqual,
+        left: Operand::Num(2),
+        right: Operand::Num(2),
+        gives: "true",
+    },
+    Row {
+        operator: BinaryOperator::GreaterOrEqual,
+        left: Operand::Num(-3),
+        right: Operand::Num(2),
+        gives: "false",
+    },
+    Row {
+        operator: BinaryOperator::BitAnd,
+        left: Operand::Num(-1),
+        right: Operand::Num(4_294_967_295),
+        gives: "-1",
+    },
+    Row {
+        operator: BinaryOperator::BitOr,
+        left: Operand::Num(2_147_483_648),
+        right: Operand::Num(0),
+        gives: "-2147483648",
+    },
+    Row {
+        operator: BinaryOperator::BitXor,
+        left: Operand::Num(9_007_199_254_740_991),
+        right: Operand::Num(1),
+        gives: "-2",
+    },
+    Row {
+        operator: BinaryOperator::ShiftLeft,
+        left: Operand::Num(1),
+        right: Operand::Num(31),
+        gives: "-2147483648",
+    },
+    Row {
+        operator: BinaryOperator::ShiftLeft,
+        left: Operand::Num(1),
+        right: Operand::Num(32),
+        gives: "1",
+    },
+    Row {
+        operator: BinaryOperator::ShiftLeft,
+        left: Operand::Num(3),
+        right: Operand::Num(0),
+        gives: "3",
+    },
+    Row {
+        operator: BinaryOperator::ShiftLeft,
+        left: Operand::Num(1),
+        right: Operand::Num(-1),
+        gives: "-2147483648",
+    },
+    Row {
+        operator: BinaryOperator::ShiftRight,
+        left: Operand::Num(-5),
+        right: Operand::Num(1),
+        gives: "-3",
+    },
+    Row {
+        operator: BinaryOperator::ShiftRight,
+        left: Operand::Num(-5),
+        right: Operand::Num(31),
+        gives: "-1",
+    },
+    Row {
+        operator: BinaryOperator::ShiftRight,
+        left: Operand::Num(2_147_483_648),
+        right: Operand::Num(0),
+        gives: "-2147483648",
+    },
+    Row {
+        operator: BinaryOperator::ShiftRightUnsigned,
+        left: Operand::Num(-1),
+        right: Operand::Num(0),
+        gives: "4294967295",
+    },
+    Row {
+        operator: BinaryOperator::ShiftRightUnsigned,
+        left: Operand::Num(-1),
+        right: Operand::Num(28),
+        gives: "15",
+    },
+    Row {
+        operator: BinaryOperator::ShiftRightUnsigned,
+        left: Operand::Num(-1),
+        right: Operand::Num(32),
+        gives: "4294967295",
+    },
+    Row {
+        operator: BinaryOperator::In,
+        left: Operand::Num(1),
+        right: Operand::Num(1),
+        gives: "wrong operand",
+    },
+    Row {
+        operator: BinaryOperator::Add,
+        left: Operand::Text("a"),
+        right: Operand::Text("b"),
+        gives: "makes \"ab\"",
+    },
+    Row {
+        operator: BinaryOperator::Subtract,
+        left: Operand::Text("a"),
+        right: Operand::Text("b"),
+        gives: "wrong operand",
+    },
+    Row {
+        operator: BinaryOperator::Less,
+        left: Operand::Text("a"),
+        right: Operand::Text("ab"),
+        gives: "true",
+    },
+    Row {
+        operator: BinaryOperator::Less,
+        left: Operand::Text("B"),
+        right: Operand::Text("a"),
+        gives: "true",
+    },
+    Row {
+        operator: BinaryOperator::Greater,
+        left: Operand::Text("10"),
+        right: Operand::Text("9"),
+        gives: "false",
+    },
+    Row {
+        operator: BinaryOperator::LessOrEqual,
+        left: Operand::Text("a"),
+        right: Operand::Text("a"),
+        gives: "true",
+    },
+    Row {
+        operator: BinaryOperator::GreaterOrEqual,
+        left: Operand::Text("a"),
+        right: Operand::Text("b"),
+        gives: "false",
+    },
+    Row {
+        operator: BinaryOperator::Add,
+        left: Operand::Text("n"),
+        right: Operand::Num(-7),
+        gives: "makes \"n-7\"",
+    },
+    Row {
+        operator: BinaryOperator::Add,
+        left: Operand::Bool(true),
+        right: Operand::Text("!"),
+        gives: "makes \"true!\"",
+    },
+    Row {
+        operator: BinaryOperator::Add,
+        left: Operand::Undefined,
+        right: Operand::Text(""),
+        gives: "makes \"undefined\"",
+    },
+    Row {
+        operator: BinaryOperator::Add,
+        left: Operand::Text(""),
+        right: Operand::Null,
+        gives: "makes \"null\"",
+    },
+    Row {
+        operator: BinaryOperator::Add,
+        left: Operand::Text("o"),
+        right: Operand::Object,
+        gives: "wrong operand",
+    },
+    Row {
+        operator: BinaryOperator::Less,
+        left: Operand::Text("1"),
+        right: Operand::Num(2),
+        gives: "wrong operand",
+    },
+    Row {
+        operator: BinaryOperator::Add,
+        left: Operand::Num(1),
+        right: Operand::Bool(true),
+        gives: "wrong operand",
+    },
+    Row {
+        operator: BinaryOperator::Add,
+        left: Operand::Undefined,
+        right: Operand::Undefined,
+        gives: "wrong operand",
+    },
+];
+
+#[test]
+fn operators_between_two_operands(rt: HostRuntime) -> Result<(), Fail> {
+    let alloc = rt.alloc();
+    for row in &ROWS {
+        let (left, right) = (value(alloc, row.left)?, value(alloc, row.right)?);
+        let answer = of_operands(alloc, row.operator, &left, &right)?;
+        let given = shown(alloc, &answer)?;
+        assert_eq!(rt; given.as_str(), row.gives, "{:?} for {}", row.operator, row.gives);
+    }
+    Ok(())
+}
+
+/// A value, and what it is as a truth and as a text; `-` where it has no text.
+struct Conversion {
+    of: Operand,
+    truth: bool,
+    text: &'static str,
+    key: &'static str,
+}
+
+const CONVERSIONS: [Conversion; 8] = [
+    Conversion {
+        of: Operand::Undefined,
+        truth: false,
+        text: "undefined",
+        key: "-",
+    },
+    Conversion {
+        of: Operand::Null,
+        truth: false,
+        text: "null",
+        key: "-",
+    },
+    Conversion {
+        of: Operand::Bool(false),
+        truth: false,
+        text: "false",
+        key: "-",
+    },
+    Conversion {
+        of: Operand::Num(0),
+        truth: false,
+        text: "0",
+        key: "0",
+    },
+    Conversion {
+        of: Operand::Num(-3),
+        truth: true,
+        text: "-3",
+        key: "-3",
+    },
+    Conversion {
+        of: Operand::Text(""),
+        truth: false,
+        text: "",
+        key: "",
+    },
+    Conversion {
+        of: Operand::Text("0"),
+        truth: true,
+        text: "0",
+        key: "0",
+    },
+    Conversion {
+        of: Operand::Object,
+        truth: true,
+        text: "-",
+        key: "-",
+    },
+];
+
+// Whether a text is the letters, or none where they are `-`.
+fn is_written(alloc: Global, text_of: Option<Units>, letters: &str) -> Result<bool, AllocError> {
+    match text_of {
+        Some(found) => Ok(found == text(alloc, letters)?),
+        None => Ok(letters == "-"),
+    }
+}
+
+#[test]
+fn conversions_and_operators_of_one_operand(rt: HostRuntime) -> Result<(), Fail> {
+    let alloc = rt.alloc();
+    for row in &CONVERSIONS {
+        let (of, same) = (value(alloc, row.of)?, value(alloc, row.of)?);
+        assert_eq!(rt; is_truthy(&of), row.truth, "truth of {}", row.text);
+        assert!(rt; is_written(alloc, primitive_text(alloc, &of)?, row.text)?, "text {}", row.text);
+        assert!(rt; is_written(alloc, key_of(alloc, &of)?, row.key)?, "key {}", row.key);
+        assert!(rt; strictly_equal(&of, &same), "{}", row.text);
+        assert!(rt; !strictly_equal(&of, &Value::Num(1)), "{}", row.text);
+    }
+    let five = Value::Num(5);
+    assert!(rt; matches!(unary_of(UnaryOperator::Minus, &five), Some(Answer::Is(Value::Num(-5)))));
+    assert!(rt; matches!(unary_of(UnaryOperator::BitNot, &five), Some(Answer::Is(Value::Num(-6)))));
+    assert!(rt; unary_of(UnaryOperator::Minus, &Value::Num(i64::MIN)).is_none());
+    assert!(rt; matches!(moved(UpdateOperator::Decrement, 0), Answer::Is(Value::Num(-1))));
+    assert!(rt; matches!(moved(UpdateOperator::Increment, 9_007_199_254_740_991), Answer::Fails(_)));
+    assert_eq!(rt; (byte_of(-1), byte_of(257), byte_of(i64::MIN)), (255, 1, 0));
+    Ok(())
+}
+
+#[test]
+fn texts_are_made_of_parts_and_walked_by_points(rt: HostRuntime) -> Result<(), Fail> {
+    let alloc = rt.alloc();
+    let pair = Units::of_units(alloc, &[97, 0xd83d, 0xde00, 0xde00, 0xd83d])?;
+    let ends = (point_end(&pair, 0), point_end(&pair, 1), point_end(&pair, 3));
+    assert_eq!(rt; ends, (1, 3, 4));
+    assert_eq!(rt; point_end(&pair, 4), 5);
+    let long = vec![in alloc; 98u16; 1_048_574]?;
+    let long = Units::of_units(alloc, long.as_slice())?;
+    let parts = [text(alloc, "a")?, long, text(alloc, "c")?];
+    assert!(rt; matches!(made_text(alloc, &parts)?, Answer::Makes(_)));
+    let last = text(alloc, "d")?;
+    let [first, middle, end] = parts;
+    assert!(rt; matches!(made_text(alloc, &[first, middle, end, last])?, Answer::Fails(_)));
+    Ok(())
+}
