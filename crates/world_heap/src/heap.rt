@@ -1,5 +1,5 @@
 //! The heap of a world, over a pool.
-ghost use Rattle.std.specs.Prelude.{◌≡◌, ℕ, ◌+◌, ◌-◌, ◌^◌, ◌<◌, ◌≤◌, ◌∷◌, [], List, Some, None, OnOk, IfOk, length, slice_get, nat_eq};
+ghost use Rattle.std.specs.Prelude.{◌≡◌, ℕ, ◌+◌, ◌-◌, ◌^◌, ◌<◌, ◌≤◌, ◌∷◌, [], List, Some, None, MatchOption, OnOk, IfOk, IfSome, length, slice_get, nat_eq};
 ghost use Rattle.world_heap.specs.Maps.{keys, find, put, without, Stands};
 ghost use Rattle.world_heap.specs.Shelf.{values_of};
 ghost use Rattle.world_heap.specs.Over.{OptionOver};
@@ -208,6 +208,15 @@ impl Heap {
         ensures well { IsWell nat_eq self.now.cells }
     {
         self.store.value(loc.number())
+    }
+
+    /// The cell at a location, where there is one. It takes no memory, and its cost is constant.
+    pub fn get(&self, loc: Loc) -> Option<&Cell>
+        ensures found { MatchOption result (find nat_eq self.now.cells loc ≡ None) (λ cell. find nat_eq self.now.cells loc ≡ Some cell.now) }
+        ensures fits { IfSome result (λ cell. Fits nat_eq self.now.cells cell.now) }
+        ensures well { IsWell nat_eq self.now.cells }
+    {
+        self.store.get(self.owner, loc.number())
     }
 
     /// Puts a cell in the place of another, and gives that one back. The heap with the new cell is well. It takes no
