@@ -10,7 +10,7 @@ use Rattle.js_operators.specs.Answers.{made}
 
 -- one part more
 pub one_more : (parts : List (List ℕ)) (i : ℕ) (part : List ℕ) → i < length parts → part ≡ get_or parts i part
-  → concat (take i parts) ++ part ≡ concat (take (i + 1) parts)
+    → concat (take i parts) ++ part ≡ concat (take (i + 1) parts)
 one_more parts i part within item =
     sym (ap concat (take_more parts i part within) ∙ concat-append (take i parts) (get_or parts i part ∷ []) ∙ rw (← item) (simp append-nil))
 
@@ -22,7 +22,7 @@ front_units parts n =
 
 -- a text that has more units than a text may have, some parts of it already
 pub made_too_long : {L : Type 0} (parts : List (List ℕ)) (i : ℕ) (part before : List ℕ) → i < length parts → part ≡ get_or parts i part
-  → before ≡ concat (take i parts) → 1_048_576 < length before + length part → made {L = L} (concat parts) ≡ Fails TooLong
+    → before ≡ concat (take i parts) → 1_048_576 < length before + length part → made {L = L} (concat parts) ≡ Fails TooLong
 unfolding made
 made_too_long parts i part before within item is over =
     let front : concat (take (i + 1) parts) ≡ before ++ part = sym (one_more parts i part within item) ∙ rw is refl in

@@ -7,13 +7,13 @@ use Rattle.js_operators.specs.Points.{EndsPoint}
 
 -- a code point of one unit
 ends_alone : (text : List ℕ) (at a : ℕ) (rest : List ℕ) → at < length text → drop at text ≡ a ∷ rest → drop (at + 1) text ≡ rest
-  → points_of (a ∷ rest) ≡ (a ∷ []) ∷ points_of rest → EndsPoint text at (at + 1)
+    → points_of (a ∷ rest) ≡ (a ∷ []) ∷ points_of rest → EndsPoint text at (at + 1)
 ends_alone text at a rest within here after points =
     (omega arith, omega arith, let one : at + 1 - at ≡ 1 = omega arith in rw (here, after, one) points)
 
 -- a code point of two units
 ends_pair : (text : List ℕ) (at a b : ℕ) (rest : List ℕ) → at + 1 < length text → drop at text ≡ a ∷ b ∷ rest → drop (at + 2) text ≡ rest
-  → points_of (a ∷ b ∷ rest) ≡ (a ∷ b ∷ []) ∷ points_of rest → EndsPoint text at (at + 2)
+    → points_of (a ∷ b ∷ rest) ≡ (a ∷ b ∷ []) ∷ points_of rest → EndsPoint text at (at + 2)
 ends_pair text at a b rest within here after points =
     (omega arith, omega arith, let two : at + 2 - at ≡ 2 = omega arith in rw (here, after, two) points)
 

@@ -13,7 +13,7 @@ use Rattle.js_operators.specs.Answers.{made, settled}
 module _ {L : Type 0} where
   -- the text is too long, or it isn't
   made_alike : (text : List ℕ) (k : Value L → Prog L) (b : Bool) → nat_lt 1_048_576 (length text) ≡ b
-    → compute (Makes text) k ≡ compute (if b then Fails TooLong else Makes text) k
+      → compute (Makes text) k ≡ compute (if b then Fails TooLong else Makes text) k
   unfolding compute make_text
   made_alike text k true e = rw e
   made_alike text k false e = refl
@@ -26,9 +26,9 @@ module _ {L : Type 0} where
 
   settled_whole : (z : ℤ) → settled {L = L} (whole z) ≡ whole z
   settled_whole z = elim (is_safe z) as (λ b. settled {L = L} (if b then Is (Num z) else Fails NotAWholeNumber) ≡ (if b then Is (Num z) else Fails NotAWholeNumber)) [
-      | true ↦ refl
-      | false ↦ refl
-    ]
+    | true ↦ refl
+    | false ↦ refl
+  ]
 
   settled_exact : (b : Bool) (z : ℤ) → settled {L = L} (if b then whole z else Fails NotAWholeNumber) ≡ (if b then whole z else Fails NotAWholeNumber)
   settled_exact true z = settled_whole z

@@ -74,7 +74,7 @@ fn of_both_numbers(operator: BinaryOperator, left: i64, right: i64) -> Answer
 /// What an operator that looks at the types of its operands comes to (ECMA-262, 13.15.3, over whole numbers): on two
 /// numbers or two texts what their operators give; `+` also joins a text and another primitive value. All else is the
 /// error `WrongOperand`, and a text of more than 1,048,576 units the error `TooLong`. `instanceof`, `in`, `===` and `!==`
-/// are no such operators, and give `WrongOperand`.
+/// are no such operators, and give `WrongOperand`. The cost is linear in the units of the texts.
 #[tactic(auto, unfolding(js_semantics::specs::Operators::of_operands))]
 pub fn of_operands(
     alloc: Global,

@@ -47,7 +47,8 @@ fn number_text(alloc: Global, number: i64) -> Result<Units, AllocError>
     short_text(alloc, &digits)
 }
 
-/// The text of a primitive value (ECMA-262, 7.1.17: ToString); objects and symbols have none. A string is copied.
+/// The text of a primitive value (ECMA-262, 7.1.17: ToString); objects and symbols have none. A string is copied, in time
+/// linear in its units.
 #[tactic(auto, unfolding(js_semantics::specs::Operators::primitive_text))]
 pub fn primitive_text(alloc: Global, value: &Value) -> Result<Option<Units>, AllocError>
     ensures { IfOk result (λ text. text ≡ primitive_text value.now) }
@@ -63,7 +64,8 @@ pub fn primitive_text(alloc: Global, value: &Value) -> Result<Option<Units>, All
     }
 }
 
-/// The key that a value is: a string, or the decimal text of a number. The others are none. A string is copied.
+/// The key that a value is (ECMA-262, 7.1.19: ToPropertyKey): a string, or the decimal text of a number; any other value
+/// is none. A string is copied, in time linear in its units.
 #[tactic(auto, unfolding(js_semantics::specs::Operators::key_of))]
 pub fn key_of(alloc: Global, value: &Value) -> Result<Option<Units>, AllocError>
     ensures { IfOk result (λ key. key ≡ key_of value.now) }
@@ -78,14 +80,15 @@ pub fn key_of(alloc: Global, value: &Value) -> Result<Option<Units>, AllocError>
     }
 }
 
-/// Whether two texts are the same.
+/// Whether two texts are the same. The cost is linear in the shorter one.
 pub fn same_text(left: &Units, right: &Units) -> bool
     ensures { result ≡ same_text left.now right.now }
 {
     left == right
 }
 
-/// Whether two values are the same (ECMA-262, 7.2.15: IsStrictlyEqual); an object is the same as itself alone.
+/// Whether two values are the same (ECMA-262, 7.2.15: IsStrictlyEqual); an object is the same as itself alone. The cost
+/// for two strings is linear in the shorter one.
 #[tactic(auto, unfolding(js_semantics::specs::Operators::strictly_equal))]
 pub fn strictly_equal(left: &Value, right: &Value) -> bool
     ensures { result ≡ strictly_equal nat_eq left.now right.now }

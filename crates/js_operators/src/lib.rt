@@ -18,7 +18,7 @@ pub use convert::{is_truthy, key_of, primitive_text, same_text, strictly_equal};
 pub use numbers::of_numbers;
 pub use points::point_end;
 pub use texts::{joined_text, made_text, of_texts};
-pub use types::is_callable;
+pub use types::{is_callable, is_callable_value, type_word};
 pub use unary::{moved, unary_of};
 
 #[cfg(test)]

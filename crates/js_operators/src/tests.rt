@@ -375,7 +375,13 @@ fn operators_between_two_operands(rt: HostRuntime) -> Result<(), Fail> {
         let (left, right) = (value(alloc, row.left)?, value(alloc, row.right)?);
         let answer = of_operands(alloc, row.operator, &left, &right)?;
         let given = shown(alloc, &answer)?;
-        assert_eq!(rt; given.as_str(), row.gives, "{:?} for {}", row.operator, row.gives);
+        assert_eq!(rt;
+            given.as_str(),
+            row.gives,
+            "{:?} for {}",
+            row.operator,
+            row.gives
+        );
     }
     Ok(())
 }
@@ -453,17 +459,45 @@ fn conversions_and_operators_of_one_operand(rt: HostRuntime) -> Result<(), Fail>
     for row in &CONVERSIONS {
         let (of, same) = (value(alloc, row.of)?, value(alloc, row.of)?);
         assert_eq!(rt; is_truthy(&of), row.truth, "truth of {}", row.text);
-        assert!(rt; is_written(alloc, primitive_text(alloc, &of)?, row.text)?, "text {}", row.text);
-        assert!(rt; is_written(alloc, key_of(alloc, &of)?, row.key)?, "key {}", row.key);
+        assert!(rt;
+            is_written(alloc, primitive_text(alloc, &of)?, row.text)?,
+            "text {}",
+            row.text
+        );
+        assert!(rt;
+            is_written(alloc, key_of(alloc, &of)?, row.key)?,
+            "key {}",
+            row.key
+        );
         assert!(rt; strictly_equal(&of, &same), "{}", row.text);
         assert!(rt; !strictly_equal(&of, &Value::Num(1)), "{}", row.text);
     }
     let five = Value::Num(5);
-    assert!(rt; matches!(unary_of(UnaryOperator::Minus, &five), Some(Answer::Is(Value::Num(-5)))));
-    assert!(rt; matches!(unary_of(UnaryOperator::BitNot, &five), Some(Answer::Is(Value::Num(-6)))));
+    assert!(rt;
+        matches!(
+            unary_of(UnaryOperator::Minus, &five),
+            Some(Answer::Is(Value::Num(-5)))
+        )
+    );
+    assert!(rt;
+        matches!(
+            unary_of(UnaryOperator::BitNot, &five),
+            Some(Answer::Is(Value::Num(-6)))
+        )
+    );
     assert!(rt; unary_of(UnaryOperator::Minus, &Value::Num(i64::MIN)).is_none());
-    assert!(rt; matches!(moved(UpdateOperator::Decrement, 0), Answer::Is(Value::Num(-1))));
-    assert!(rt; matches!(moved(UpdateOperator::Increment, 9_007_199_254_740_991), Answer::Fails(_)));
+    assert!(rt;
+        matches!(
+            moved(UpdateOperator::Decrement, 0),
+            Answer::Is(Value::Num(-1))
+        )
+    );
+    assert!(rt;
+        matches!(
+            moved(UpdateOperator::Increment, 9_007_199_254_740_991),
+            Answer::Fails(_)
+        )
+    );
     assert_eq!(rt; (byte_of(-1), byte_of(257), byte_of(i64::MIN)), (255, 1, 0));
     Ok(())
 }
@@ -472,7 +506,11 @@ fn conversions_and_operators_of_one_operand(rt: HostRuntime) -> Result<(), Fail>
 fn texts_are_made_of_parts_and_walked_by_points(rt: HostRuntime) -> Result<(), Fail> {
     let alloc = rt.alloc();
     let pair = Units::of_units(alloc, &[97, 0xd83d, 0xde00, 0xde00, 0xd83d])?;
-    let ends = (point_end(&pair, 0), point_end(&pair, 1), point_end(&pair, 3));
+    let ends = (
+        point_end(&pair, 0),
+        point_end(&pair, 1),
+        point_end(&pair, 3),
+    );
     assert_eq!(rt; ends, (1, 3, 4));
     assert_eq!(rt; point_end(&pair, 4), 5);
     let long = vec![in alloc; 98u16; 1_048_574]?;
@@ -481,6 +519,11 @@ fn texts_are_made_of_parts_and_walked_by_points(rt: HostRuntime) -> Result<(), F
     assert!(rt; matches!(made_text(alloc, &parts)?, Answer::Makes(_)));
     let last = text(alloc, "d")?;
     let [first, middle, end] = parts;
-    assert!(rt; matches!(made_text(alloc, &[first, middle, end, last])?, Answer::Fails(_)));
+    assert!(rt;
+        matches!(
+            made_text(alloc, &[first, middle, end, last])?,
+            Answer::Fails(_)
+        )
+    );
     Ok(())
 }

@@ -11,7 +11,8 @@ use std::alloc::{AllocError, Global};
 use wl_text::{TextFault, Units};
 use world_heap::Value;
 
-/// The units of both texts in a row, or the error `TooLong` where there are more than 1,048,576.
+/// The units of both texts in a row, or the error `TooLong` where there are more than 1,048,576 (ECMA-262, 6.1.4). The
+/// cost is linear in the units.
 #[tactic(auto, unfolding(crate::specs::Answers::made))]
 pub fn joined_text(alloc: Global, front: &Units, back: &Units) -> Result<Answer, AllocError>
     ensures { IfOk result (λ answer. computed_of answer ≡ made (front.now ++ back.now)) }
@@ -59,7 +60,8 @@ fn is_before(left: &Units, right: &Units) -> bool
 }
 
 /// What an operator comes to on two texts: `+` joins them, and `<`, `>`, `<=` and `>=` compare them unit by unit; any
-/// other is the error `WrongOperand`. A text of more than 1,048,576 units is the error `TooLong`.
+/// other is the error `WrongOperand` (ECMA-262, 7.2.13 and 13.15.3). A text of more than 1,048,576 units is the error
+/// `TooLong`. The cost is linear in the units.
 #[tactic(auto, unfolding(js_semantics::specs::Operators::of_texts))]
 pub fn of_texts(
     alloc: Global,
