@@ -1,5 +1,5 @@
 //! Numbers of 32 and of 8 bits.
-ghost use Rattle.std.specs.Prelude.{◌≡◌, ℤ};
+ghost use Rattle.std.specs.Prelude.{◌≡◌};
 ghost use Rattle.js_semantics.specs.Operators.{to_unsigned, to_signed};
 ghost use Rattle.js_semantics.specs.Properties.{byte_of};
 

@@ -1,14 +1,14 @@
 //! Operators as rows use them. The expected answers are those of ECMA-262, where a result that is no whole number from
 //! -(2^53-1) to 2^53-1 is an error.
 use crate::{
-    Answer, byte_of, is_truthy, key_of, made_text, moved, of_operands, point_end, primitive_text,
-    strictly_equal, unary_of,
+    Answer, byte_of, is_callable_value, is_truthy, key_of, made_text, moved, of_operands,
+    point_end, primitive_text, strictly_equal, type_word, unary_of,
 };
 use js_tree::{BinaryOperator, UnaryOperator, UpdateOperator};
 use std::alloc::{AllocError, Global};
 use std::test::Fail;
 use wl_text::Units;
-use world_heap::{Loc, Value};
+use world_heap::{Heap, Limits, Loc, Pool, Value, WorldKind};
 
 /// A value that stands in a table.
 #[derive(Clone, Copy)]
@@ -386,9 +386,10 @@ fn operators_between_two_operands(rt: HostRuntime) -> Result<(), Fail> {
     Ok(())
 }
 
-/// A value, and what it is as a truth and as a text; `-` where it has no text.
+/// A value, the word of its type, and what it is as a truth, as a text and as a key; `-` where it is none.
 struct Conversion {
     of: Operand,
+    word: &'static str,
     truth: bool,
     text: &'static str,
     key: &'static str,
@@ -397,48 +398,56 @@ struct Conversion {
 const CONVERSIONS: [Conversion; 8] = [
     Conversion {
         of: Operand::Undefined,
+        word: "undefined",
         truth: false,
         text: "undefined",
         key: "-",
     },
     Conversion {
         of: Operand::Null,
+        word: "object",
         truth: false,
         text: "null",
         key: "-",
     },
     Conversion {
         of: Operand::Bool(false),
+        word: "boolean",
         truth: false,
         text: "false",
         key: "-",
     },
     Conversion {
         of: Operand::Num(0),
+        word: "number",
         truth: false,
         text: "0",
         key: "0",
     },
     Conversion {
         of: Operand::Num(-3),
+        word: "number",
         truth: true,
         text: "-3",
         key: "-3",
     },
     Conversion {
         of: Operand::Text(""),
+        word: "string",
         truth: false,
         text: "",
         key: "",
     },
     Conversion {
         of: Operand::Text("0"),
+        word: "string",
         truth: true,
         text: "0",
         key: "0",
     },
     Conversion {
         of: Operand::Object,
+        word: "object",
         truth: true,
         text: "-",
         key: "-",
@@ -456,8 +465,18 @@ fn is_written(alloc: Global, text_of: Option<Units>, letters: &str) -> Result<bo
 #[test]
 fn conversions_and_operators_of_one_operand(rt: HostRuntime) -> Result<(), Fail> {
     let alloc = rt.alloc();
+    let limits = Limits {
+        steps: 1,
+        cells: 10,
+        places: 10,
+        units: 10,
+        depth: 1,
+    };
+    let heap = Heap::new(alloc, limits, WorldKind::Main, Pool::new(alloc))?;
     for row in &CONVERSIONS {
         let (of, same) = (value(alloc, row.of)?, value(alloc, row.of)?);
+        assert_eq!(rt; type_word(&heap, &of), row.word, "type of {}", row.text);
+        assert!(rt; !is_callable_value(&heap, &of), "{}", row.text);
         assert_eq!(rt; is_truthy(&of), row.truth, "truth of {}", row.text);
         assert!(rt;
             is_written(alloc, primitive_text(alloc, &of)?, row.text)?,

@@ -1,5 +1,5 @@
 //! Operators on two texts, and the texts that operators and templates make.
-ghost use Rattle.std.specs.Prelude.{◌≡◌, ◌++◌, ◌<◌, ◌≤◌, IfOk, length};
+ghost use Rattle.std.specs.Prelude.{◌≡◌, ◌++◌, IfOk};
 ghost use Rattle.std.specs.List.{concat};
 ghost use Rattle.js_semantics.specs.Operators.{of_texts, text_before};
 ghost use Rattle.js_operators.specs.Answers.{computed_of, settled, made};

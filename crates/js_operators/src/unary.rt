@@ -2,7 +2,7 @@
 ghost use Rattle.std.specs.Prelude.{◌≡◌, negsuc, MatchOption};
 ghost use Rattle.world_heap.specs.declared.value.Value.TheVariants.{Num};
 ghost use Rattle.js_tree.specs.declared.node.UnaryOperator.TheVariants.{Minus};
-ghost use Rattle.js_semantics.specs.Operators.{whole, of_number, of_operand, unary_of};
+ghost use Rattle.js_semantics.specs.Operators.{whole, of_number, unary_of};
 ghost use Rattle.js_semantics.specs.Expressions.{moved_by};
 ghost use Rattle.js_operators.specs.Answers.{computed_of};
 
