@@ -462,6 +462,21 @@ fn is_written(alloc: Global, text_of: Option<Units>, letters: &str) -> Result<bo
     }
 }
 
+// Whether the value is converted as the table says, and the same as itself alone.
+fn is_converted(alloc: Global, heap: &Heap, row: &Conversion) -> Result<bool, AllocError> {
+    let (of, same) = (value(alloc, row.of)?, value(alloc, row.of)?);
+    let word = type_word(heap, &of);
+    Ok(
+        word.as_bytes() == row.word.as_bytes()
+            && is_truthy(&of) == row.truth
+            && is_written(alloc, primitive_text(alloc, &of)?, row.text)?
+            && is_written(alloc, key_of(alloc, &of)?, row.key)?
+            && strictly_equal(&of, &same)
+            && !strictly_equal(&of, &Value::Num(1))
+            && !is_callable_value(heap, &of),
+    )
+}
+
 #[test]
 fn conversions_and_operators_of_one_operand(rt: HostRuntime) -> Result<(), Fail> {
     let alloc = rt.alloc();
@@ -474,22 +489,12 @@ fn conversions_and_operators_of_one_operand(rt: HostRuntime) -> Result<(), Fail>
     };
     let heap = Heap::new(alloc, limits, WorldKind::Main, Pool::new(alloc))?;
     for row in &CONVERSIONS {
-        let (of, same) = (value(alloc, row.of)?, value(alloc, row.of)?);
-        assert_eq!(rt; type_word(&heap, &of), row.word, "type of {}", row.text);
-        assert!(rt; !is_callable_value(&heap, &of), "{}", row.text);
-        assert_eq!(rt; is_truthy(&of), row.truth, "truth of {}", row.text);
         assert!(rt;
-            is_written(alloc, primitive_text(alloc, &of)?, row.text)?,
-            "text {}",
+            is_converted(alloc, &heap, row)?,
+            "{} {}",
+            row.word,
             row.text
         );
-        assert!(rt;
-            is_written(alloc, key_of(alloc, &of)?, row.key)?,
-            "key {}",
-            row.key
-        );
-        assert!(rt; strictly_equal(&of, &same), "{}", row.text);
-        assert!(rt; !strictly_equal(&of, &Value::Num(1)), "{}", row.text);
     }
     let five = Value::Num(5);
     assert!(rt;
@@ -521,6 +526,16 @@ fn conversions_and_operators_of_one_operand(rt: HostRuntime) -> Result<(), Fail>
     Ok(())
 }
 
+// Whether a text is made of so many units and one more.
+fn is_made(alloc: Global, count: usize) -> Result<bool, AllocError> {
+    let long = vec![in alloc; 98u16; count]?;
+    let Ok(long) = Units::of_units(alloc, long.as_slice()) else {
+        return Ok(false);
+    };
+    let parts = [long, text(alloc, "a")?];
+    Ok(matches!(made_text(alloc, &parts)?, Answer::Makes(_)))
+}
+
 #[test]
 fn texts_are_made_of_parts_and_walked_by_points(rt: HostRuntime) -> Result<(), Fail> {
     let alloc = rt.alloc();
@@ -532,17 +547,7 @@ fn texts_are_made_of_parts_and_walked_by_points(rt: HostRuntime) -> Result<(), F
     );
     assert_eq!(rt; ends, (1, 3, 4));
     assert_eq!(rt; point_end(&pair, 4), 5);
-    let long = vec![in alloc; 98u16; 1_048_574]?;
-    let long = Units::of_units(alloc, long.as_slice())?;
-    let parts = [text(alloc, "a")?, long, text(alloc, "c")?];
-    assert!(rt; matches!(made_text(alloc, &parts)?, Answer::Makes(_)));
-    let last = text(alloc, "d")?;
-    let [first, middle, end] = parts;
-    assert!(rt;
-        matches!(
-            made_text(alloc, &[first, middle, end, last])?,
-            Answer::Fails(_)
-        )
-    );
+    assert!(rt; is_made(alloc, 1_048_575)?);
+    assert!(rt; !is_made(alloc, 1_048_576)?);
     Ok(())
 }
