@@ -15,23 +15,33 @@ use Rattle.world_heap.specs.Bodies.{body_of}
 use Rattle.proto_props.specs.declared.outcome.Refusal.TheVariants.{ReadOnly}
 use Rattle.proto_props.specs.Own.{is_length}
 use Rattle.proto_props.specs.Gets.{length_number}
+use Rattle.proto_props.specs.Removes.{is_configurable}
 use Rattle.proto_props.specs.Same.{same_value, same_function}
 use Rattle.proto_props.specs.Changes.{Change, Stays, Refuses}
 use Rattle.proto_props.specs.Adds.{value_with, replaced, added, item_set}
 
 module _ {L : Type 0} where
+  abbrev pub is_enumerable : Property L → Bool
+  is_enumerable (Data v w e c) = e
+  is_enumerable (Access get set e c) = e
+
   -- the value of an own property of an array: of its length, or of an element
   abbrev pub item_value : List (Value L) → List ℕ → Option (Value L)
   item_value items key = if is_length key then Some (length_number items) else option_and_then (slice_get items) (index_of key)
 
 module _ {L : Type 0} (same : L → L → Bool) where
+  -- a data property that stays one, and has the same value where it can't be written; an accessor with the same functions
+  abbrev pub keeps : Property L → Property L → Bool
+  keeps (Data v w e c) (Data u x f d) = w || (not x && same_value same v u)
+  keeps (Data v w e c) (Access get set f d) = false
+  keeps (Access get set e c) (Data u x f d) = false
+  keeps (Access get set e c) (Access h t f d) = same_function same get h && same_function same set t
+
   -- Whether a property may take the place of another (10.1.6.3: ValidateAndApplyPropertyDescriptor). One that isn't
-  -- configurable keeps what it is, but for the value while it can be written, and may be made read-only.
+  -- configurable keeps what it is and whether it is listed, but for the value while it can be written, and may be made
+  -- read-only.
   abbrev pub allows : Property L → Property L → Bool
-  allows (Data v w e c) (Data u x f d) = c || (not d && (beq e f && (w || (not x && same_value same v u))))
-  allows (Data v w e c) (Access get set f d) = c
-  allows (Access get set e c) (Data u x f d) = c
-  allows (Access get set e c) (Access h t f d) = c || (not d && (beq e f && (same_function same get h && same_function same set t)))
+  allows q p = is_configurable q || (not (is_configurable p) && (beq (is_enumerable q) (is_enumerable p) && keeps q p))
 
   -- An own property of an array takes another value alone, and none other while the array is frozen: its attributes are
   -- those of the array, and no others can be asked for.

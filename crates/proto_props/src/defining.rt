@@ -11,8 +11,9 @@ ghost use Rattle.world_heap.specs.Heaps.{IsNoEnv, IsCell};
 ghost use Rattle.world_heap.specs.Bodies.{body_of};
 ghost use Rattle.proto_props.specs.Adds.{IsArray, value_with};
 ghost use Rattle.proto_props.specs.Changes.{Carries};
+ghost use Rattle.proto_props.specs.Removes.{is_configurable};
 ghost use Rattle.proto_props.specs.Same.{same_value};
-ghost use Rattle.proto_props.specs.Defines.{allows, item_value, body_defined, defined_in, defines};
+ghost use Rattle.proto_props.specs.Defines.{is_enumerable, keeps, allows, item_value, body_defined, defined_in, defines};
 
 use crate::adding::{add, value_of};
 use crate::outcome::{Refusal, SetDone};
@@ -29,53 +30,62 @@ use world_heap::{Cell, Heap, HeapFault, Loc, Property, Value, body};
 /// The greatest whole number that a value may be.
 const GREATEST: usize = 9_007_199_254_740_991;
 
-// Whether a property may take the place of another.
-fn is_allowed(old: &Property, new: &Property) -> bool
-    ensures { result ≡ allows nat_eq old.now new.now }
+// Whether a property may be removed or become another.
+fn can_change(property: &Property) -> bool
+    ensures { result ≡ is_configurable property.now }
+{
+    match property {
+        Property::Data { configurable, .. } => *configurable,
+        Property::Access { configurable, .. } => *configurable,
+    }
+}
+
+// Whether a property is listed.
+fn is_listed(property: &Property) -> bool
+    ensures { result ≡ is_enumerable property.now }
+{
+    match property {
+        Property::Data { enumerable, .. } => *enumerable,
+        Property::Access { enumerable, .. } => *enumerable,
+    }
+}
+
+// Whether a property is what another was, but for a value that can be written, and for being written.
+fn stays_what_it_is(old: &Property, new: &Property) -> bool
+    ensures { result ≡ keeps nat_eq old.now new.now }
 {
     match (old, new) {
         (
             Property::Data {
                 value,
                 writable,
-                enumerable,
-                configurable,
+                ..
             },
             Property::Data {
                 value: other,
                 writable: writes,
-                enumerable: lists,
-                configurable: changes,
+                ..
             },
-        ) => {
-            *configurable
-                || (!*changes
-                    && *enumerable == *lists
-                    && (*writable || (!*writes && are_same(value, other))))
-        }
+        ) => *writable || (!*writes && are_same(value, other)),
         (
-            Property::Access {
-                get,
-                set,
-                enumerable,
-                configurable,
-            },
+            Property::Access { get, set, .. },
             Property::Access {
                 get: getter,
                 set: setter,
-                enumerable: lists,
-                configurable: changes,
+                ..
             },
-        ) => {
-            *configurable
-                || (!*changes
-                    && *enumerable == *lists
-                    && are_same_functions(*get, *getter)
-                    && are_same_functions(*set, *setter))
-        }
-        (Property::Data { configurable, .. }, Property::Access { .. }) => *configurable,
-        (Property::Access { configurable, .. }, Property::Data { .. }) => *configurable,
+        ) => are_same_functions(*get, *getter) && are_same_functions(*set, *setter),
+        (Property::Data { .. }, Property::Access { .. }) => false,
+        (Property::Access { .. }, Property::Data { .. }) => false,
     }
+}
+
+// Whether a property may take the place of another.
+fn is_allowed(old: &Property, new: &Property) -> bool
+    ensures { result ≡ allows nat_eq old.now new.now }
+{
+    can_change(old)
+        || (!can_change(new) && is_listed(old) == is_listed(new) && stays_what_it_is(old, new))
 }
 
 // Whether an array has an own property under a key.
