@@ -4,3 +4,4 @@ pub mod Hardening
 pub mod Arrays
 pub mod Puts
 pub mod Deciding
+pub mod Pushes
