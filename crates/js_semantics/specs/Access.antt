@@ -16,7 +16,9 @@ use Rattle.js_tree.specs.declared.node.Node.TheVariants as kinds
 use Rattle.js_semantics.specs.declared.fault.Fault.TheVariants.{NotAFunction, NotAnObject, ReadOnly, TooManyCalls, NotDefined, NotReady}
 use Rattle.js_semantics.specs.declared.scope.Scope.{Scope}
 use Rattle.js_semantics.specs.World.{World, built_in, cell_of, with_cell}
-use Rattle.js_semantics.specs.Prog.{Prog, Cont, Outcome, Normal, Return, Break, Continue, Thrown, End, Enter, Read, Write, Bind, Native, Node as NodeRequest, bind, on_value, eval, alloc, change, count_places, give, throw, make_text}
+use Rattle.js_semantics.specs.declared.outcome.Outcome.{Outcome}
+use Rattle.js_semantics.specs.declared.outcome.Outcome.TheVariants.{Normal, Return, Break, Continue, Thrown}
+use Rattle.js_semantics.specs.Prog.{Prog, Cont, End, Enter, Read, Write, Bind, Native, Node as NodeRequest, bind, on_value, eval, alloc, change, count_places, give, throw, make_text}
 use Rattle.proto_props.specs.declared.get.Got.{Got}
 use Rattle.proto_props.specs.declared.get.Got.TheVariants.{Value as Given, CallGetter, Absent, Refused}
 use Rattle.proto_props.specs.Gets.{gets}

@@ -1,0 +1,1 @@
+//! Whether a cell may stand in a heap.
