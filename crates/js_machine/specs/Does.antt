@@ -1,11 +1,12 @@
 -- What a part of the machine does.
-use Rattle.std.specs.Prelude.{◌≡◌, ℕ, suc, ◌+◌, ◌-◌, ◌*◌, ◌<◌, nat_eq, length, map, Bool, true, false, not, IsTrue, List, [], ◌∷◌, ◌++◌, Result, Ok, Err, Option, Some, None}
+use Rattle.std.specs.Prelude.{◌≡◌, ◌≢◌, ℕ, suc, ◌+◌, ◌-◌, ◌*◌, ◌<◌, ◌≤◌, nat_eq, length, map, Bool, true, false, not, IsTrue, List, [], ◌∷◌, ◌++◌, Result, Ok, Err, Option, Some, None}
 use Rattle.std.specs.List.{sum_by}
 use Rattle.js_tree.specs.declared.node.NodeId.{NodeId}
 use Rattle.js_tree.specs.declared.node.Node.{Node}
 use Rattle.world_heap.specs.declared.cell.Cell.{Cell}
 use Rattle.world_heap.specs.Views.{HeapView}
-use Rattle.world_heap.specs.Growth.{first_full, counts_with}
+use Rattle.world_heap.specs.declared.limits.HeapFault.TheVariants as full
+use Rattle.world_heap.specs.Growth.{first_full, counts_with, grown}
 use Rattle.js_semantics.specs.declared.entry.Delivery.{Delivery}
 use Rattle.js_semantics.specs.declared.entry.Entry.{Entry}
 use Rattle.js_semantics.specs.declared.entry.Entry.TheVariants as entry
@@ -14,7 +15,7 @@ use Rattle.js_semantics.specs.declared.entry.Product.{Product}
 use Rattle.js_semantics.specs.declared.entry.Stop.{Stop}
 use Rattle.js_semantics.specs.declared.entry.Stop.TheVariants.{Cells, Places}
 use Rattle.js_semantics.specs.World.{World, limited}
-use Rattle.js_semantics.specs.Prog.{Prog, Cont, Over, Await, Script, Node as NodeRequest, Bind, Member, Native, bind}
+use Rattle.js_semantics.specs.Prog.{Prog, Cont, End, Over, Await, Request, Script, Node as NodeRequest, Bind, Member, Native, bind}
 use Rattle.js_semantics.specs.Rows.{row}
 use Rattle.js_semantics.specs.Run.{Arrival, Budget, Trace, Then, run, at_rest}
 use Rattle.js_machine.specs.declared.state.State.{State}
@@ -24,8 +25,6 @@ use Rattle.js_machine.specs.declared.state.Next.{Next}
 use Rattle.js_machine.specs.declared.state.Next.TheVariants.{Go, Made}
 use Rattle.js_machine.specs.declared.frame.Frame.{Frame}
 use Rattle.js_machine.specs.declared.frame.Frame.TheVariants as frames
-use Rattle.js_machine.specs.declared.frame.ValueFrame.TheVariants as values
-use Rattle.js_machine.specs.declared.frame.CallFrame.TheVariants as calls
 use Rattle.js_machine.specs.declared.frame.AfterFrame.TheVariants as afters
 use Rattle.js_machine.specs.Frames.{rest, under}
 
@@ -92,9 +91,9 @@ is_running other = true
 -- call and one for what comes after it; and any other frame may read, which leaves a frame for what follows and one for
 -- the call of a getter.
 abbrev pub weight : Frame ℕ → ℕ
-weight (frames.OnValue (values.Call (calls.Constructed object))) = 1
 weight (frames.OnValue f) = 5
 weight (frames.After (afters.Result value)) = 1
+weight (frames.After (afters.Constructed object)) = 1
 weight (frames.After f) = 3
 weight frames.Script = 1
 weight frames.Leave = 1
@@ -145,3 +144,35 @@ pub record Steps (nodes : List Node) (old new : State) (next : Next) : Type 0 wh
   pub falls : work new < work old
   pub keeps : (supply : ℕ → ℕ) → Follows supply 0 new.heap.cells → Follows supply 0 old.heap.cells
   pub stays : Stays old.heap new.heap
+
+-- a step is taken, or none was left and the world stops
+abbrev pub StepsDown : State → State → Bool → Type 0
+StepsDown old new true = (old.steps ≢ 0) × (new ≡ record old { steps = old.steps - 1 })
+StepsDown old new false = (old.steps ≡ 0) × (new ≡ record old { control = controls.Stop })
+
+-- what a frame leaves, where there is one
+abbrev pub under_frame : List Node → Option (Frame ℕ) → Cont ℕ
+under_frame nodes None o = End o
+under_frame nodes (Some f) o = rest nodes f o
+
+-- the request is entered by this being next
+pub record IsEntered (c : Control ℕ) (r : Request ℕ) : Type 0 where
+  pub row_is : (k : Cont ℕ) → control_prog c k ≡ bind (row r) k
+  pub costs : control_work c ≡ 6
+
+-- a new cell, or a stop where one would pass a limit
+abbrev pub Allocates : Cell ℕ → State → State → Result ℕ Stop → Type 0
+Allocates cell old new (Ok loc) = (length old.heap.cells ≡ old.heap.base + old.heap.counts.cells)
+    × (first_full old.heap.limits (counts_with old.heap.counts cell) ≡ None)
+    × (new ≡ record old { heap = record old.heap { cells = old.heap.cells ++ (loc, cell) ∷ []; counts = counts_with old.heap.counts cell } })
+Allocates cell old new (Err Cells) = (length old.heap.cells ≡ old.heap.base + old.heap.counts.cells)
+    × (first_full old.heap.limits (counts_with old.heap.counts cell) ≡ Some full.Cells) × (new ≡ record old { control = controls.Stop })
+Allocates cell old new (Err Places) = (length old.heap.cells ≡ old.heap.base + old.heap.counts.cells)
+    × (first_full old.heap.limits (counts_with old.heap.counts cell) ≡ Some full.Places) × (new ≡ record old { control = controls.Stop })
+Allocates cell old new (Err other) = ⊥
+
+-- so many units are counted, or the world stops where they would pass the limit
+abbrev pub CountsUnits : ℕ → State → State → Bool → Type 0
+CountsUnits units old new true = (old.heap.counts.units + units ≤ old.heap.limits.units)
+    × (new ≡ record old { heap = record old.heap { counts = grown old.heap.counts 0 0 units } })
+CountsUnits units old new false = (old.heap.limits.units < old.heap.counts.units + units) × (new ≡ record old { control = controls.Stop })

@@ -1,5 +1,5 @@
 -- What is left of the rows in progress: the rest of each frame, in the words of its row.
-use Rattle.std.specs.Prelude.{ℕ, ◌+◌, List, [], ◌∷◌, ◌++◌, drop, map, Option, Some, None, Bool, true, false, slice_get, codes}
+use Rattle.std.specs.Prelude.{ℕ, ◌+◌, List, [], ◌∷◌, ◌++◌, drop, map, Option, Some, None, Bool, true, false, if◌then◌else◌, slice_get}
 use Rattle.std.specs.Option.{option_map_or}
 use Rattle.world_heap.specs.declared.value.Value.{Value}
 use Rattle.world_heap.specs.declared.value.Value.TheVariants.{Undefined, Ref, Bool as Boolean}
@@ -57,16 +57,21 @@ use Rattle.js_machine.specs.declared.frame.Frame.{Frame}
 use Rattle.js_machine.specs.declared.frame.Frame.TheVariants as frames
 use Rattle.js_machine.specs.Parts.{name_of, items_of, texts_of, parts_of, declarators_of, elements_of, entries_of, parameters_from, rest_parameter, body_node, key_part}
 
-module _ {L : Type 0} (nodes : List Node) where
-  -- the text of a key
-  abbrev pub key_text : Key → List ℕ
-  key_text (Named node) = name_of (slice_get nodes node.0)
-  key_text (Text text) = text
+-- the text of a key
+abbrev pub key_text : List Node → Key → List ℕ
+key_text nodes (Named node) = name_of (slice_get nodes node.0)
+key_text nodes (Text text) = text
 
+-- the key of a member, which is written in it where it isn't this text
+abbrev pub property_key : List Node → NodeId → Option (List ℕ) → List ℕ
+property_key nodes node None = key_part (slice_get nodes node.0)
+property_key nodes node (Some text) = text
+
+module _ {L : Type 0} (nodes : List Node) where
   -- writes a place, and then goes on
   abbrev pub write_place : Place L → Value L → Prog L → Prog L
   write_place (places.Name node env) v p = write_name env (name_of (slice_get nodes node.0)) v p
-  write_place (places.Property base key) v p = set base (key_text key) v p
+  write_place (places.Property base key) v p = set base (key_text nodes key) v p
 
   -- what a list of arguments is evaluated for
   abbrev pub target_call : CallTarget L → List (Value L) → Prog L
@@ -80,15 +85,15 @@ module _ {L : Type 0} (nodes : List Node) where
 
   -- what is done with a property
   abbrev pub use_rest : Use → Value L → Key → Scope L → Prog L
-  use_rest uses.Get base key scope = get base (key_text key) (λ v. give v)
+  use_rest uses.Get base key scope = get base (key_text nodes key) (λ v. give v)
   use_rest (uses.Update operator before) base key scope =
-      get base (key_text key) (λ old. updated operator before old (λ new p. write_place (places.Property base key) new p))
-  use_rest uses.Delete base key scope = delete base (key_text key)
-  use_rest (uses.Assign value) base key scope = eval value scope (λ v. set base (key_text key) v (give v))
+      get base (key_text nodes key) (λ old. updated operator before old (λ new p. write_place (places.Property base key) new p))
+  use_rest uses.Delete base key scope = delete base (key_text nodes key)
+  use_rest (uses.Assign value) base key scope = eval value scope (λ v. set base (key_text nodes key) v (give v))
   use_rest (uses.AssignBy operator value) base key scope =
-      get base (key_text key) (λ old. assign_by operator old value scope (λ new p. write_place (places.Property base key) new p))
+      get base (key_text nodes key) (λ old. assign_by operator old value scope (λ new p. write_place (places.Property base key) new p))
   use_rest (uses.Call node) base key scope =
-      get base (key_text key) (λ f. arguments_rest node 0 [] (targets.Call f base) scope)
+      get base (key_text nodes key) (λ f. arguments_rest node 0 [] (targets.Call f base) scope)
 
   abbrev pub operand_rest : OperandFrame L → Value L → Prog L
   operand_rest (operands.TemplatePart node next before scope) v =
@@ -107,10 +112,10 @@ module _ {L : Type 0} (nodes : List Node) where
   operand_rest (operands.AssignOperand operator old place) v = apply operator old v (λ new. write_place place new (give new))
 
   abbrev pub property_rest : PropertyFrame L → Value L → Prog L
-  property_rest (properties.DotObject node then scope) base = use_rest then base (Named node) scope
-  property_rest (properties.IndexObject key then scope) base =
-      eval key scope (λ v. with_key (key_of v) (λ text. use_rest then base (Text text) scope))
-  property_rest (properties.IndexKey base then scope) v = with_key (key_of v) (λ text. use_rest then base (Text text) scope)
+  property_rest (properties.DotObject node usage scope) base = use_rest usage base (Named node) scope
+  property_rest (properties.IndexObject key usage scope) base =
+      eval key scope (λ v. with_key (key_of v) (λ text. use_rest usage base (Text text) scope))
+  property_rest (properties.IndexKey base usage scope) v = with_key (key_of v) (λ text. use_rest usage base (Text text) scope)
 
   -- the parameters of a node's function from a place on, and its body
   abbrev pub parameters_rest : NodeId → ℕ → List (Value L) → Scope L → Prog L
@@ -128,16 +133,10 @@ module _ {L : Type 0} (nodes : List Node) where
   call_rest (calls.Argument node next false before target scope) v = arguments_rest node next (before ++ v ∷ []) target scope
   call_rest (calls.Argument node next true before target scope) v =
       walk_value v (λ array. Read (λ w. arguments_rest node next (before ++ items_at (cell_at array w)) target scope))
-  call_rest (calls.Constructed object) v = Read (λ w. give (constructed object v w))
   call_rest (calls.ParameterDefault node at arguments scope) v =
       parameter_rest node (drop at (parameters_from (slice_get nodes node.0))) at arguments scope v
   call_rest (calls.ParameterBound node next arguments scope) v = parameters_rest node next arguments scope
   call_rest (calls.RestBound node scope) v = Enter (NodeRequest (body_node (slice_get nodes node.0)) scope) (λ o. End o)
-
-  -- the value of a member with this key
-  abbrev pub property_key : NodeId → Option (List ℕ) → List ℕ
-  property_key node None = key_part (slice_get nodes node.0)
-  property_key node (Some text) = text
 
   abbrev pub literal_rest : LiteralFrame L → Value L → Prog L
   literal_rest (literals.Element node next false array scope) v =
@@ -148,7 +147,7 @@ module _ {L : Type 0} (nodes : List Node) where
       members_into object (drop next (items_of (slice_get nodes node.0))) scope (give (Ref object))
   literal_rest (literals.MemberKey node object scope) v =
       with_key (key_of v) (λ text. member_under (slice_get nodes node.0) node object scope text)
-  literal_rest (literals.PropertyValue node key object) v = define object (property_key node key) (λ old. plain v) done
+  literal_rest (literals.PropertyValue node key object) v = define object (property_key nodes node key) (λ old. plain v) done
 
   abbrev pub declared_rest : List Declarator → Scope L → Value L → Prog L
   declared_rest [] scope v = done
@@ -210,6 +209,7 @@ module _ {L : Type 0} (nodes : List Node) where
   abbrev pub after_rest : AfterFrame L → Value L → Prog L
   after_rest afters.Give v = give v
   after_rest (afters.Result value) v = give value
+  after_rest (afters.Constructed object) v = Read (λ w. give (constructed object v w))
   after_rest afters.Typeof v = give_type v
   after_rest (afters.Update operator before place) old = updated operator before old (λ new p. write_place place new p)
   after_rest (afters.AssignBy operator value place scope) old = assign_by operator old value scope (λ new p. write_place place new p)

@@ -117,18 +117,18 @@ pub enum PropertyFrame<L = Loc> {
     /// The object of a `Dot` node.
     DotObject {
         node: NodeId,
-        then: Use,
+        usage: Use,
         scope: Scope<L>,
     },
     /// The object of an `Index` node, whose key follows.
     IndexObject {
         key: NodeId,
-        then: Use,
+        usage: Use,
         scope: Scope<L>,
     },
     IndexKey {
         base: Value<L>,
-        then: Use,
+        usage: Use,
         scope: Scope<L>,
     },
 }
@@ -154,10 +154,6 @@ pub enum CallFrame<L = Loc> {
         done: Items<Value<L>>,
         target: CallTarget<L>,
         scope: Scope<L>,
-    },
-    /// The call of a function by `new`.
-    Constructed {
-        object: L,
     },
     /// The default of the parameter with the number `at`.
     ParameterDefault {
@@ -345,6 +341,10 @@ pub enum AfterFrame<L = Loc> {
     /// This value is that of the row.
     Result {
         value: Value<L>,
+    },
+    /// The call of a function by `new`, with the new object.
+    Constructed {
+        object: L,
     },
     Typeof,
     Update {

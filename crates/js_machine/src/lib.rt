@@ -1,6 +1,7 @@
 //! The machine that evaluates scripts: its state, the frames of rows in progress, and what rows are made of.
 #![tactic(auto)]
 
+mod basic;
 mod frame;
 mod state;
 
