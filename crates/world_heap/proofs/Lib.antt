@@ -7,3 +7,4 @@ pub mod Counting
 pub mod Begun
 pub mod Bodying
 pub mod Sorting
+pub mod Marking

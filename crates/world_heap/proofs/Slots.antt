@@ -163,7 +163,7 @@ module _ {T : Type 0} where
       ] refl t
 
 module _ {T : Type 0} where
-  size_bound : (x : Option T) → size_of x ≤ 1
+  pub size_bound : (x : Option T) → size_of x ≤ 1
   size_bound None = omega arith
   size_bound (Some v) = omega arith
 

@@ -11,7 +11,7 @@ use Rattle.world_heap.proofs.Slots.{times-append, held_put, held_take, held_writ
 use Rattle.world_heap.proofs.Regions.{owners-set, times-set, length-set_own, times-remove, length-remove_own, own_among, keys-maps, find-maps, maps-set, maps-slot, stored_filled, among_at, find-among, maps-write, apart_all, at_filled}
 use Rattle.world_heap.proofs.Wells.{absent_found}
 
-none : Region
+pub none : Region
 none = record { owner = 0; own = [] }
 
 module _ {T : Type 0} (slots : List (Option T)) (rs : List Region) where
@@ -104,6 +104,11 @@ module _ {T : Type 0} (slots : List (Option T)) (rs : List Region) where
   pub last_filled : (own : List ℕ) (l : ℕ) → IsHeld slots ((own ++ l ∷ []) ++ all_own rs) → IsFilled slots l
   last_filled own l h =
       held_filled slots ((own ++ l ∷ []) ++ all_own rs) l h (omega (arith, times-append l (own ++ l ∷ []) (all_own rs), last_some own l))
+
+  -- the slots of the others don't have it
+  pub last_apart : (own : List ℕ) (l : ℕ) → IsHeld slots ((own ++ l ∷ []) ++ all_own rs) → times l (all_own rs) ≡ 0
+  last_apart own l h =
+      omega (arith, held_bound slots ((own ++ l ∷ []) ++ all_own rs) l h, times-append l (own ++ l ∷ []) (all_own rs), last_some own l)
 
   pub last_alone : (own : List ℕ) (l : ℕ) → IsHeld slots ((own ++ l ∷ []) ++ all_own rs) → maps (set slots l None) rs ≡ maps slots rs
   last_alone own l h =

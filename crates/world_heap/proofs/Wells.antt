@@ -1,5 +1,5 @@
 -- A heap stays well where a cell is added, and where one is replaced by one that is alike.
-use Rattle.std.proofs.Common.{◌≡◌, ℕ, zero, suc, ◌+◌, ◌≤◌, true, false, List, [], ◌∷◌, ◌++◌, Some, None, Option, refl, sym, ap, ◌∙◌, subst, arith, nat_eq, if◌then◌else◌, IsSomeAnd, ◌||◌}
+use Rattle.std.proofs.Common.{MatchOption, IfSome, ◌≡◌, ℕ, zero, suc, ◌+◌, ◌≤◌, true, false, List, [], ◌∷◌, ◌++◌, Some, None, Option, refl, sym, ap, ◌∙◌, subst, arith, nat_eq, if◌then◌else◌, IsSomeAnd, ◌||◌}
 use Rattle.std.specs.Option.{option_and_then, option_map_or}
 use Rattle.std.proofs.lemmas.Bool.Decides.{nat_tests}
 use Rattle.world_heap.specs.declared.cell.Cell.{Cell}
@@ -186,3 +186,8 @@ module _ (cells : List (ℕ × Cell ℕ)) (l : ℕ) (c d : Cell ℕ) (found : fi
             let n = well.end k old in
             (n.0, ends_kept cells new put_kept well.fits n.0 k old n.1);
       }
+
+-- what holds of each that is found, from what tells what was found
+pub some_of : {X : Type 0} (o : Option X) (A : Type 0) (Q R : X → Type 0) → ((x : X) → Q x → R x) → MatchOption o A Q → IfSome o R
+some_of None A Q R more h = tt
+some_of (Some x) A Q R more h = more x h

@@ -1,9 +1,10 @@
 -- How a store keeps the values of its owners: in slots, with a list of the slots of each owner. No public clause cites
 -- this module.
-use Rattle.std.specs.Prelude.{◌≡◌, ℕ, zero, suc, ◌+◌, List, [], ◌∷◌, ◌++◌, length, Option, Some, None, slice_index_or, nat_eq, false, if◌then◌else◌}
+use Rattle.std.specs.Prelude.{◌≡◌, ℕ, zero, suc, ◌+◌, ◌≤◌, List, [], ◌∷◌, ◌++◌, length, Option, Some, None, slice_index_or, nat_eq, false, if◌then◌else◌}
 use Rattle.cell_chunks.specs.Slots.{vacancies}
 use Rattle.world_heap.specs.declared.store.Region.{Region}
 use Rattle.world_heap.specs.Maps.{stands}
+use Rattle.world_heap.specs.Over.{ListOver}
 
 -- how many times the number stands in the list
 abbrev pub times : ℕ → List ℕ → ℕ
@@ -56,6 +57,17 @@ module _ {T : Type 0} where
   pub record IsStored (slots : List (Option T)) (regions : List Region) : Type 0 where
     pub held : IsHeld slots (all_own regions)
     pub distinct : IsDistinct (owners regions)
+
+-- each slot of a region is marked with its owner
+abbrev pub AreMarked : List (Option ℕ) → List Region → Type 0
+AreMarked marks [] = Unit {0}
+AreMarked marks (r ∷ rs) = ListOver (λ l. slice_index_or marks l None ≡ Some r.owner) r.own × AreMarked marks rs
+
+-- A slot is marked with its owner where it is filled, and else it has no mark.
+pub record IsMarked {T : Type 0} (slots : List (Option T)) (marks : List (Option ℕ)) (regions : List Region) : Type 0 where
+  pub long : length slots ≤ length marks
+  pub marked : AreMarked marks regions
+  pub bare : (k : ℕ) → filled_at slots k ≡ 0 → slice_index_or marks k None ≡ None
 
 -- the place of the first region of an owner
 abbrev pub IsAt : List Region → ℕ → ℕ → Type 0

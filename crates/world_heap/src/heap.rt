@@ -1,6 +1,6 @@
 //! The heap of a world, over a pool.
-ghost use Rattle.std.specs.Prelude.{◌≡◌, ℕ, ◌+◌, ◌-◌, ◌^◌, ◌<◌, ◌≤◌, ◌∷◌, [], List, Some, None, OnOk, IfOk, length, slice_get, nat_eq};
-ghost use Rattle.world_heap.specs.Maps.{keys, find, put, without, Stands};
+ghost use Rattle.std.specs.Prelude.{◌≡◌, ℕ, ◌+◌, ◌-◌, ◌^◌, ◌<◌, ◌≤◌, ◌∷◌, [], List, Some, None, false, MatchOption, OnOk, OnErr, IfOk, IfSome, length, slice_get, nat_eq};
+ghost use Rattle.world_heap.specs.Maps.{keys, find, put, without, stands, Stands};
 ghost use Rattle.world_heap.specs.Shelf.{values_of};
 ghost use Rattle.world_heap.specs.Over.{OptionOver};
 ghost use Rattle.world_heap.specs.Heaps.{IsNoEnv, IsCell, Fits, IsWell};
@@ -109,6 +109,23 @@ impl Heap {
         })
     }
 
+    /// Adds a built-in cell behind the others, which isn't counted. Where memory runs out the heap stays as it was.
+    ///
+    /// Fewer than 1,024 cells are built in, and the cell's locations stand. The cost is constant on average.
+    pub fn add_built_in(&mut self, cell: Cell) -> Result<Loc, AllocError>
+        requires room { self.old.base < 1024 }
+        requires fits { Fits nat_eq self.old.cells cell }
+        ensures added { IfOk result (λ loc. self.new ≡ with_built_in self.old ((loc, cell) ∷ [])) }
+        ensures fresh { IfOk result (λ loc. stands nat_eq (keys self.old.cells) loc ≡ false) }
+        ensures stands { IfOk result (λ loc. find nat_eq self.new.cells loc ≡ Some cell) }
+        ensures kept { (loc : ℕ) → IsNoEnv nat_eq self.old.cells loc → IsNoEnv nat_eq self.new.cells loc }
+        ensures err { OnErr result (self.new ≡ self.old) }
+    {
+        let number = self.store.add(self.owner, cell)?;
+        self.base += 1;
+        Ok(Loc::of(number))
+    }
+
     // One built-in object more.
     fn add_object(&mut self, alloc: Global, proto: Option<Loc>) -> Result<Loc, AllocError>
         requires room { self.old.base < 1024 }
@@ -117,16 +134,14 @@ impl Heap {
         ensures stands { IfOk result (λ loc. IsNoEnv nat_eq self.new.cells loc) }
         ensures kept { (loc : ℕ) → IsNoEnv nat_eq self.old.cells loc → IsNoEnv nat_eq self.new.cells loc }
     {
-        let cell = Cell::Object {
+        let loc = self.add_built_in(Cell::Object {
             body: Body {
                 proto,
                 properties: Table::new(alloc),
                 extensible: true,
             },
-        };
-        let number = self.store.add(self.owner, cell)?;
-        self.base += 1;
-        Ok(Loc::of(number))
+        })?;
+        Ok(loc)
     }
 
     // So many built-in objects more, with one prototype.
@@ -208,6 +223,15 @@ impl Heap {
         ensures well { IsWell nat_eq self.now.cells }
     {
         self.store.value(loc.number())
+    }
+
+    /// The cell at a location, where there is one. It takes no memory, and its cost is constant.
+    pub fn get(&self, loc: Loc) -> Option<&Cell>
+        ensures found { MatchOption result (find nat_eq self.now.cells loc ≡ None) (λ cell. find nat_eq self.now.cells loc ≡ Some cell.now) }
+        ensures fits { IfSome result (λ cell. Fits nat_eq self.now.cells cell.now) }
+        ensures well { IsWell nat_eq self.now.cells }
+    {
+        self.store.get(self.owner, loc.number())
     }
 
     /// Puts a cell in the place of another, and gives that one back. The heap with the new cell is well. It takes no

@@ -1,5 +1,5 @@
 //! Values of several owners in one store of slots, each owner's in the order in which they came.
-ghost use Rattle.std.specs.Prelude.{◌≡◌, ℕ, ◌+◌, ◌<◌, ◌≤◌, ◌++◌, [], ◌∷◌, Some, None, false, length, replicate, position, slice_get, ◌==◌, sum_by, nat_eq, OnOk, OnErr, IfOk};
+ghost use Rattle.std.specs.Prelude.{◌≡◌, ◌↔◌, IsTrue, ℕ, ◌+◌, ◌<◌, ◌≤◌, ◌++◌, [], ◌∷◌, Some, None, false, length, replicate, position, slice_get, slice_index_or, ◌==◌, sum_by, nat_eq, MatchOption, OnOk, OnErr, IfOk};
 ghost use Rattle.cell_chunks.specs.Slots.{vacancies};
 ghost use Rattle.world_heap.specs.Maps.{keys, find, put, without, stands, Stands};
 ghost use Rattle.world_heap.specs.Shelf.{values_of, IsAmong, Apart};
@@ -22,12 +22,14 @@ pub struct Region {
 pub struct Store<T> {
     chunks: Chunks<T>,
     regions: Vec<Region>,
+    // the owner of each slot that is filled
+    marks: Vec<Option<u32>>,
 }
 
 impl<T> Model for Store<T> {
     ghost use Rattle.std.specs.Prelude.{ℕ, List};
     ghost use Rattle.std.specs.Coded.{coded_list, coded×, coded_ℕ};
-    ghost use Rattle.world_heap.specs.Stored.{maps, IsStored};
+    ghost use Rattle.world_heap.specs.Stored.{maps, IsStored, IsMarked};
 
     ghost Value = { List (ℕ × List (ℕ × T)) };
 
@@ -35,17 +37,46 @@ impl<T> Model for Store<T> {
 
     ghost view = { λ store. maps store.chunks store.regions.items };
 
-    ghost invariant = { λ store. IsStored store.chunks store.regions.items };
+    ghost invariant = { λ store. IsStored store.chunks store.regions.items
+        × IsMarked store.chunks store.marks.items store.regions.items };
 }
 
 /// Lets a value go. A generic function keeps the cases of its drop out of its callers' proofs.
 pub fn discard<T: Drop>(_value: T) {}
 
-// A vacant slot, where there is none, by a chunk more.
-fn make_room<T: Drop>(chunks: &mut Chunks<T>) -> Result<(), AllocError>
+// Makes the list of marks so long, where it is shorter.
+fn make_marks(marks: &mut Vec<Option<u32>>, count: usize) -> Result<(), AllocError>
+    ensures long { OnOk result (count ≤ length marks.new.items) }
+    ensures longer { length marks.old.items ≤ length marks.new.items }
+    ensures same { (k : ℕ) → slice_index_or marks.new.items k None ≡ slice_index_or marks.old.items k None }
+{
+    'marks: while marks.len() < count {
+        marks.push(None)?;
+    }
+    Ok(())
+}
+
+// Whether a slot is marked with the owner.
+fn is_marked(marks: &[Option<u32>], owner: u32, slot: u32) -> bool
+    ensures { IsTrue result ↔ (slice_index_or marks.now slot None ≡ Some owner) }
+{
+    match marks.get(slot as usize) {
+        Some(Some(mark)) => *mark == owner,
+        _ => false,
+    }
+}
+
+// A vacant slot, where there is none, by a chunk more, and as many marks as there are slots.
+fn make_room<T: Drop>(
+    chunks: &mut Chunks<T>,
+    marks: &mut Vec<Option<u32>>,
+) -> Result<(), AllocError>
+    requires { length chunks.old ≤ length marks.old.items }
     ensures room { OnOk result (0 < vacancies chunks.new) }
     ensures more { (n : ℕ) × (chunks.new ≡ chunks.old ++ replicate n None) }
     ensures err { OnErr result (chunks.new ≡ chunks.old) }
+    ensures long { length chunks.new ≤ length marks.new.items }
+    ensures same { (k : ℕ) → slice_index_or marks.new.items k None ≡ slice_index_or marks.old.items k None }
 {
     if chunks.vacant() > 0 {
         return Ok(());
@@ -53,6 +84,7 @@ fn make_room<T: Drop>(chunks: &mut Chunks<T>) -> Result<(), AllocError>
     if chunks.len() > 1024 * 4_194_302 {
         return Err(AllocError);
     }
+    make_marks(marks, chunks.len() + 1024)?;
     chunks.add_chunk()?;
     Ok(())
 }
@@ -83,6 +115,7 @@ impl<T: Drop> Store<T> {
         Store {
             chunks: Chunks::new(alloc),
             regions: Vec::new(alloc),
+            marks: Vec::new(alloc),
         }
     }
 
@@ -106,11 +139,14 @@ impl<T: Drop> Store<T> {
         ensures apart { IfOk result (λ l. Apart self.old l) }
         ensures err { OnErr result (self.new ≡ self.old) }
     {
-        make_room(&mut self.chunks)?;
+        make_room(&mut self.chunks, &mut self.marks)?;
         let at = region_at(self.regions.as_slice(), owner);
         match self.chunks.put(value) {
             Ok(slot) => match self.regions[at].own.push(slot.0) {
-                Ok(()) => Ok(slot.0),
+                Ok(()) => {
+                    self.marks[slot.0 as usize] = Some(owner);
+                    Ok(slot.0)
+                }
                 Err(error) => {
                     discard(self.chunks.take(slot));
                     Err(error)
@@ -126,6 +162,17 @@ impl<T: Drop> Store<T> {
         ensures { (owner : ℕ) → IsAmong self.now owner loc → find nat_eq (values_of self.now owner) loc ≡ Some result.now }
     {
         self.chunks.get(Slot(loc))
+    }
+
+    /// The value of an owner at a location, where it has one. Its cost is constant.
+    pub fn get(&self, owner: u32, loc: u32) -> Option<&T>
+        ensures { MatchOption result (find nat_eq (values_of self.now owner) loc ≡ None)
+            (λ value. find nat_eq (values_of self.now owner) loc ≡ Some value.now) }
+    {
+        if is_marked(self.marks.as_slice(), owner, loc) {
+            return Some(self.chunks.get(Slot(loc)));
+        }
+        None
     }
 
     /// Puts a value in the place of another, and gives that one back.
@@ -164,6 +211,7 @@ impl<T: Drop> Store<T> {
         let mut region = self.regions.remove(at);
         'values: while let Some(loc) = region.own.pop() {
             discard(self.chunks.take(Slot(loc)));
+            self.marks[loc as usize] = None;
         }
     }
 }

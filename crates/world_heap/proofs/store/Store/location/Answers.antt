@@ -13,7 +13,7 @@ returns-in-Some g c =
     let regions = c.self.inside.regions.items in
     let at : IsAt c.as_slice.result.now c.args.owner c.in-Some.place = at_position c.as_slice.result.now c.args.owner c.in-Some.place (sym c.region_place.ensures ∙ c.in-Some.is) in
     let here : IsAt regions c.args.owner c.in-Some.place = subst (λ rs. IsAt rs c.args.owner c.in-Some.place) c.as_slice.ensures.value at in
-    let locations = keys_is slots regions c.self.invariant c.args.owner c.in-Some.place c.index.result.now here in
+    let locations = keys_is slots regions c.self.invariant.0 c.args.owner c.in-Some.place c.index.result.now here in
     c.copied.ensures ∙ c.get.ensures.value ∙ ap (λ (r : Region). slice_get r.own c.args.at) c.index.ensures
     ∙ ap (λ ks. slice_get ks c.args.at) (sym locations) ∙ ap (λ ms. slice_get (keys (values_of ms c.args.owner)) c.args.at) c.self.view_is
 
