@@ -4,6 +4,7 @@ use Rattle.std.proofs.lemmas.Result.{IfOk-weaker}
 use Rattle.std.proofs.lemmas.Bool.Decides.{nat_tests}
 use Rattle.js_tree.specs.declared.node.Node.{Node}
 use Rattle.world_heap.specs.declared.cell.Cell.{Cell}
+use Rattle.world_heap.specs.declared.cell.Cell.TheVariants.{Object, Array, Closure, Native, Far, Error, Map, Set, Promise, Port, Buffer, View, Symbol, Env}
 use Rattle.world_heap.specs.declared.limits.Counts.{Counts}
 use Rattle.world_heap.specs.declared.limits.HeapFault.{HeapFault}
 use Rattle.world_heap.specs.declared.limits.HeapFault.TheVariants as full
@@ -80,13 +81,14 @@ moves_alloc nodes cell k old mid loc free (counted, room, is) =
     let fits = full_none old.heap.limits (counts_with old.heap.counts cell) room in
     let some : places_of cell ≤ old.heap.limits.places - old.heap.counts.places = omega arith in
     let place : old.heap.limits.places - (old.heap.counts.places + places_of cell) ≡ old.heap.limits.places - old.heap.counts.places - places_of cell = omega arith in
+    let zeroth : 0 + length old.heap.cells ≡ length old.heap.cells = omega arith in
     let unit : old.heap.counts.units + units_of cell ≡ old.heap.counts.units = omega arith in
     rw is (record {
       law = λ supply ds j follows.
           let w = world_of nodes supply old in
           let b = budget_of old in
           let at = follows_push supply 0 old.heap.cells loc cell follows in
-          let here : w.supply (length w.heap) ≡ Some loc = limited_some supply (length old.heap.cells) (old.heap.base + old.heap.limits.cells) (omega arith) ∙ ap (λ l. Some l) (sym at.1) in
+          let here : w.supply (length w.heap) ≡ Some loc = limited_some supply (length old.heap.cells) (old.heap.base + old.heap.limits.cells) (omega arith) ∙ ap (λ l. Some l) (sym (at.1 ∙ ap supply zeroth)) in
           ap (λ o. run ds b w (bind (placed o cell k) j)) here
           ∙ ap (λ p. run ds b w p) (count_bind (places_of cell) (Read (λ v. Write (with_new loc cell v) (k loc))) j)
           ∙ places_some ds (receive ds) (places_of cell) b (bind (Read (λ v. Write (with_new loc cell v) (k loc))) j) w some
@@ -129,10 +131,28 @@ places_none ds (suc m) b p w h = go b.places refl (λ some. places_none ds m (re
         let some : b.places ≢ 0 = λ y. absurd (omega arith) in
         place_some ds (receive ds) b (count_places m p) w some ∙ next some
 
+-- each cell takes a place
+some_place : (cell : Cell ℕ) → 1 ≤ places_of cell
+some_place (Object b) = omega arith
+some_place (Array p vs f) = omega arith
+some_place (Closure b n e r) = omega arith
+some_place (Native b i vs) = omega arith
+some_place (Far b n) = omega arith
+some_place (Error b k) = omega arith
+some_place (Map b es) = omega arith
+some_place (Set b vs) = omega arith
+some_place (Promise b s rs) = omega arith
+some_place (Port b n h ms cs) = omega arith
+some_place (Buffer b bs) = omega arith
+some_place (View b l o n) = omega arith
+some_place (Symbol t) = omega arith
+some_place (Env o bs) = omega arith
+
 pub not_alloc_places : (nodes : List Node) (n : ℕ) (cell : Cell ℕ) (k : ℕ → Prog ℕ) (old new : State) → 1 ≤ n → Allocates cell old new (Err Places) → Does nodes n (alloc cell k) old new (Made (Stopped Places))
 unfolding alloc run
 not_alloc_places nodes n cell k old new some (counted, room, is) =
     let above = full_places old.heap.limits (counts_with old.heap.counts cell) room in
+    let one = some_place cell in
     let less : old.heap.limits.places - old.heap.counts.places < places_of cell = omega arith in
     record {
       law = λ supply ds follows.

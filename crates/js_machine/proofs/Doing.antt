@@ -1,7 +1,8 @@
 -- How what parts of the machine do is put together.
-use Rattle.std.proofs.Common.{◌≡◌, ◌≢◌, ℕ, suc, zero, ◌+◌, ◌*◌, ◌-◌, ◌≤◌, ◌<◌, List, [], ◌∷◌, ◌++◌, length, option_to_list, append_nil, Option, Some, None, Bool, true, false, IfOk, Result, Ok, Err, nat_lt, nat_eq, refl, sym, ap, ◌∙◌, arith}
+use Rattle.std.proofs.Common.{◌≡◌, ◌≢◌, ℕ, suc, zero, ◌+◌, ◌*◌, ◌-◌, ◌≤◌, ◌<◌, List, [], ◌∷◌, ◌++◌, length, option_to_list, append-nil, Option, Some, None, Bool, true, false, IfOk, Result, Ok, Err, nat_lt, nat_eq, refl, sym, ap, ◌∙◌, arith}
 use Rattle.std.proofs.lemmas.Result.{IfOk-weaker}
 use Rattle.js_tree.specs.declared.node.Node.{Node}
+use Rattle.world_heap.specs.Views.{HeapView}
 use Rattle.js_semantics.specs.declared.fault.StepFault.{StepFault}
 use Rattle.js_semantics.specs.declared.outcome.Outcome.{Outcome}
 use Rattle.js_semantics.specs.declared.outcome.Outcome.TheVariants.{Normal}
@@ -69,11 +70,11 @@ allowing_ok nodes few many p old new r le = IfOk-weaker r _ _ (λ next h. allowi
 
 -- what is left of a frame stands above the frames below it
 under_front : (nodes : List Node) (old new : State) (frame : Option (Frame ℕ)) → new.frames.items ≡ old.frames.items ++ option_to_list frame → ◌≡◌ {A = Cont ℕ} (stack_rest nodes new) (λ o. bind (under_frame nodes frame o) (stack_rest nodes old))
-under_front nodes old new None is = ap (λ fs. under nodes (λ o. Over) fs) (is ∙ append_nil old.frames.items)
+under_front nodes old new None is = ap (λ fs. under nodes (λ o. Over) fs) (is ∙ append-nil old.frames.items)
 under_front nodes old new (Some f) is = ap (λ fs. under nodes (λ o. Over) fs) is ∙ under_push nodes (λ o. Over) old.frames.items f
 
 weights_front : (old : List (Frame ℕ)) (frame : Option (Frame ℕ)) → weights (old ++ option_to_list frame) ≤ weights old + 5
-weights_front old None = let e = ap weights (append_nil old) in omega arith
+weights_front old None = let e = ap weights (append-nil old) in omega arith
 weights_front old (Some f) = let e = weights_push old f in let m = weight_most f in omega arith
 
 -- a request is entered, as what is next
@@ -131,8 +132,8 @@ not_entered nodes n old new r k le none is = record {
   stays = ap (λ s. s.heap) is ∙ sym (ap (λ s. record old.heap { cells = s.heap.cells; counts = s.heap.counts }) is);
 }
 
-stays_twice : (a b c : _) → Stays a b → Stays b c → Stays a c
-stays_twice a b c h g = g ∙ ap (λ v. record v { cells = c.cells; counts = c.counts }) h
+stays_twice : (a b c : HeapView) → Stays a b → Stays b c → Stays a c
+stays_twice a b c h g = g ∙ ap (λ (v : HeapView). record v { cells = c.cells; counts = c.counts }) h
 
 -- what p comes to is done
 pub does_move : (nodes : List Node) (n : ℕ) (p q : Prog ℕ) (old mid new : State) (next : Next) → Moves nodes p old q mid → Does nodes n q mid new next → Does nodes n p old new next
@@ -147,7 +148,7 @@ does_move nodes n p q old mid new next m h = record {
       let g = m.left in
       omega arith;
   keeps = λ supply f. m.keeps supply (h.keeps supply f);
-  stays = stays_twice _ _ _ m.stays h.stays;
+  stays = stays_twice old.heap mid.heap new.heap m.stays h.stays;
 }
 
 pub does_move_ok : (nodes : List Node) (n : ℕ) (p q : Prog ℕ) (old mid new : State) (r : Result Next StepFault) → Moves nodes p old q mid → IfOk r (λ next. Does nodes n q mid new next) → IfOk r (λ next. Does nodes n p old new next)
@@ -160,7 +161,7 @@ moves_on nodes p q r old mid new m h = record {
   frames = h.frames ∙ m.frames;
   left = let a = m.left in let b = h.left in omega arith;
   keeps = λ supply f. m.keeps supply (h.keeps supply f);
-  stays = stays_twice _ _ _ m.stays h.stays;
+  stays = stays_twice old.heap mid.heap new.heap m.stays h.stays;
 }
 
 -- a program that comes to another at once, in the same state

@@ -1,5 +1,8 @@
 -- The parts of a node that a frame goes through.
-use Rattle.std.specs.Prelude.{ℕ, List, [], Option, Some, None}
+use Rattle.std.specs.Prelude.{ℕ, List, [], ◌∷◌, true, false, Option, Some, None, codes}
+use Rattle.world_heap.specs.declared.value.Property.{Property}
+use Rattle.world_heap.specs.declared.value.Property.TheVariants.{Data}
+use Rattle.world_heap.specs.declared.value.Value.TheVariants.{Str}
 use Rattle.js_tree.specs.declared.node.NodeId.{NodeId}
 use Rattle.js_tree.specs.declared.node.Declarator.{Declarator}
 use Rattle.js_tree.specs.declared.node.BindElement.{BindElement}
@@ -84,3 +87,8 @@ key_part (Some (kinds.Method key function)) = written key
 key_part (Some (kinds.Getter key function)) = written key
 key_part (Some (kinds.Setter key function)) = written key
 key_part other = []
+
+-- the properties of an error with a message, or without one
+abbrev pub message_entry : {L : Type 0} → Option (List ℕ) → List (List ℕ × Property L)
+message_entry None = []
+message_entry (Some message) = (codes "message", Data (Str message) true false true) ∷ []

@@ -26,7 +26,10 @@ pub fn is_object(heap: &Heap, loc: Loc) -> bool
 pub fn is_cell(heap: &Heap, loc: Loc) -> bool
     ensures { result ≡ true → IsCell nat_eq heap.now.cells loc }
 {
-    heap.get(loc).is_some()
+    match heap.get(loc) {
+        Some(_) => true,
+        None => false,
+    }
 }
 
 /// Whether a prototype is there and is no environment, where there is one.

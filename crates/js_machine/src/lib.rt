@@ -2,6 +2,8 @@
 #![tactic(auto)]
 
 mod basic;
+mod cells;
+mod fitting;
 mod frame;
 mod state;
 
