@@ -5,7 +5,7 @@ ghost use Rattle.world_heap.specs.Shelf.{values_of};
 ghost use Rattle.world_heap.specs.Over.{OptionOver};
 ghost use Rattle.world_heap.specs.Heaps.{IsNoEnv, IsCell, Fits, IsWell};
 ghost use Rattle.world_heap.specs.BuiltIns.{plain_object, objects, place_of};
-ghost use Rattle.world_heap.specs.Views.{IsOwned};
+ghost use Rattle.world_heap.specs.Views.{IsCounted, IsOwned};
 ghost use Rattle.std.specs.Option.{option_and_then};
 ghost use Rattle.world_heap.specs.Bodies.{body_of, HasBody, rebodied, rewritten};
 ghost use Rattle.world_heap.specs.Growth.{grown, first_passed, Adds, Grows};
@@ -298,11 +298,19 @@ impl Heap {
         self.base + self.counts.cells
     }
 
-    /// How many cells, places and units were made.
+    /// How many cells, places and units were made: none more than its limit.
     pub fn count(&self) -> Counts
-        ensures { result ≡ self.now.counts }
+        ensures is { result ≡ self.now.counts }
+        ensures within { IsCounted result self.now.limits self.now.base }
     {
         self.counts
+    }
+
+    /// What the world of the heap may use.
+    pub fn limits(&self) -> Limits
+        ensures { bounds_of result ≡ self.now.limits }
+    {
+        self.limits
     }
 
     /// How many cells are built in: at most 1,024.

@@ -1,0 +1,5 @@
+pub mod Doing
+pub mod Allocating
+pub mod Testing
+pub mod Messages
+pub mod Errors

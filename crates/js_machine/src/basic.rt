@@ -1,0 +1,154 @@
+//! What the rows are made of: ending a row, and entering what is below it.
+ghost use Rattle.std.specs.Prelude.{◌≡◌, ◌≤◌, ◌++◌, ℕ, List, IfOk, OnOk, Some, None, option_to_list};
+ghost use Rattle.js_tree.specs.declared.node.Node as kind;
+ghost use Rattle.js_semantics.specs.Prog.{Bind, End, Enter, Member, Native, Node as NodeRequest, Request, give};
+ghost use Rattle.js_machine.specs.Frames.{after_rest, rest};
+ghost use Rattle.js_machine.specs.Does.{Does, IsEntered, StepsDown, under_frame};
+
+use crate::frame::{AfterFrame, Frame};
+use crate::state::{Control, Next, State};
+use js_semantics::{Outcome, Product, Scope, StepFault, Stop};
+use js_tree::NodeId;
+use sqlite_items::Items;
+use world_heap::{Loc, Value};
+
+/// Lets a value go. A generic function keeps the cases of its drop out of its callers' proofs.
+pub fn discard<T: Drop>(_value: T) {}
+
+/// A world stops, for good.
+pub fn stopped(stop: Stop) -> Next
+    ensures { result ≡ Next.Made (Product.Stopped stop) }
+{
+    Next::Made(Product::Stopped(stop))
+}
+
+impl State {
+    /// Ends a row with an outcome.
+    pub fn give(&mut self, outcome: Outcome) -> Result<Next, StepFault>
+        ensures few { (nodes : List kind.Node) → IfOk result (λ next. Does nodes 2 (End outcome) self.old self.new next) }
+        ensures some { (nodes : List kind.Node) → IfOk result (λ next. Does nodes 4 (End outcome) self.old self.new next) }
+        ensures many { (nodes : List kind.Node) → IfOk result (λ next. Does nodes 6 (End outcome) self.old self.new next) }
+    {
+        self.control = Control::Give(outcome);
+        Ok(Next::Go)
+    }
+
+    /// What follows a reading is done with the value.
+    pub fn hand(&mut self, frame: AfterFrame, value: Value) -> Result<Next, StepFault>
+        ensures { (nodes : List kind.Node) → IfOk result (λ next. Does nodes 6 (after_rest nodes frame value) self.old self.new next) }
+    {
+        self.frames.push(Frame::After(frame))?;
+        self.control = Control::Give(Outcome::Normal(value));
+        Ok(Next::Go)
+    }
+
+    /// Puts a frame on the stack, where there is one. For want of memory the frame is lost.
+    pub fn push(&mut self, frame: Option<Frame>) -> Result<(), StepFault>
+        ensures frames { OnOk result (self.new.frames.items ≡ self.old.frames.items ++ option_to_list frame) }
+        ensures rest { self.new ≡ record self.old { frames = self.new.frames } }
+    {
+        match frame {
+            Some(frame) => {
+                self.frames.push(frame)?;
+                Ok(())
+            }
+            None => Ok(()),
+        }
+    }
+
+    /// Says what is next.
+    pub fn turn_to(&mut self, control: Control)
+        ensures { self.new ≡ record self.old { control = control } }
+    {
+        discard(std::mem::replace(&mut self.control, control));
+    }
+
+    // Takes a step and goes on with what is entered, over a frame where there is one.
+    fn go(&mut self, frame: Option<Frame>, control: Control) -> Result<Next, StepFault>
+        ensures { (nodes : List kind.Node) (n : ℕ) (r : Request ℕ) → 2 ≤ n → IsEntered control r
+            → IfOk result (λ next. Does nodes n (Enter r (λ o. under_frame nodes frame o)) self.old self.new next) }
+    {
+        if self.steps == 0 {
+            self.control = Control::Stop;
+            return Ok(stopped(Stop::Fuel));
+        }
+        self.push(frame)?;
+        self.steps -= 1;
+        self.turn_to(control);
+        Ok(Next::Go)
+    }
+
+    /// Enters a node for a step, and leaves a frame for its outcome.
+    pub fn enter(&mut self, frame: Frame, node: NodeId, scope: Scope) -> Result<Next, StepFault>
+        ensures few { (nodes : List kind.Node) → IfOk result (λ next. Does nodes 2 (Enter (NodeRequest node scope) (λ o. rest nodes frame o)) self.old self.new next) }
+        ensures some { (nodes : List kind.Node) → IfOk result (λ next. Does nodes 4 (Enter (NodeRequest node scope) (λ o. rest nodes frame o)) self.old self.new next) }
+        ensures many { (nodes : List kind.Node) → IfOk result (λ next. Does nodes 6 (Enter (NodeRequest node scope) (λ o. rest nodes frame o)) self.old self.new next) }
+    {
+        self.go(Some(frame), Control::Node(node, scope))
+    }
+
+    /// Enters a node for a step, whose outcome is that of the row.
+    pub fn jump(&mut self, node: NodeId, scope: Scope) -> Result<Next, StepFault>
+        ensures few { (nodes : List kind.Node) → IfOk result (λ next. Does nodes 2 (Enter (NodeRequest node scope) (λ o. End o)) self.old self.new next) }
+        ensures some { (nodes : List kind.Node) → IfOk result (λ next. Does nodes 4 (Enter (NodeRequest node scope) (λ o. End o)) self.old self.new next) }
+        ensures many { (nodes : List kind.Node) → IfOk result (λ next. Does nodes 6 (Enter (NodeRequest node scope) (λ o. End o)) self.old self.new next) }
+    {
+        self.go(None, Control::Node(node, scope))
+    }
+
+    /// Enters a pattern for a step, with the value that is bound to it, and leaves a frame.
+    pub fn bind(
+        &mut self,
+        frame: Frame,
+        node: NodeId,
+        value: Value,
+        scope: Scope,
+    ) -> Result<Next, StepFault>
+        ensures few { (nodes : List kind.Node) → IfOk result (λ next. Does nodes 2 (Enter (Bind node value scope) (λ o. rest nodes frame o)) self.old self.new next) }
+        ensures some { (nodes : List kind.Node) → IfOk result (λ next. Does nodes 4 (Enter (Bind node value scope) (λ o. rest nodes frame o)) self.old self.new next) }
+        ensures many { (nodes : List kind.Node) → IfOk result (λ next. Does nodes 6 (Enter (Bind node value scope) (λ o. rest nodes frame o)) self.old self.new next) }
+    {
+        self.go(Some(frame), Control::Bind(node, value, scope))
+    }
+
+    /// Enters a member of an object literal for a step, and leaves a frame.
+    pub fn enter_member(
+        &mut self,
+        frame: Frame,
+        node: NodeId,
+        object: Loc,
+        scope: Scope,
+    ) -> Result<Next, StepFault>
+        ensures few { (nodes : List kind.Node) → IfOk result (λ next. Does nodes 2 (Enter (Member node object scope) (λ o. rest nodes frame o)) self.old self.new next) }
+        ensures many { (nodes : List kind.Node) → IfOk result (λ next. Does nodes 6 (Enter (Member node object scope) (λ o. rest nodes frame o)) self.old self.new next) }
+    {
+        self.go(Some(frame), Control::Member(node, object, scope))
+    }
+
+    /// Enters a call of a built-in function for a step, over a frame where there is one.
+    pub fn enter_native(
+        &mut self,
+        frame: Option<Frame>,
+        id: u16,
+        receiver: Value,
+        arguments: Items<Value>,
+    ) -> Result<Next, StepFault>
+        ensures few { (nodes : List kind.Node) → IfOk result (λ next. Does nodes 2 (Enter (Native id receiver arguments) (λ o. under_frame nodes frame o)) self.old self.new next) }
+        ensures some { (nodes : List kind.Node) → IfOk result (λ next. Does nodes 4 (Enter (Native id receiver arguments) (λ o. under_frame nodes frame o)) self.old self.new next) }
+        ensures many { (nodes : List kind.Node) → IfOk result (λ next. Does nodes 6 (Enter (Native id receiver arguments) (λ o. under_frame nodes frame o)) self.old self.new next) }
+    {
+        self.go(frame, Control::Native(id, receiver, arguments))
+    }
+
+    /// Takes the step of a node whose parts are evaluated by the row around it, or stops.
+    pub fn step_down(&mut self) -> bool
+        ensures { StepsDown self.old self.new result }
+    {
+        if self.steps == 0 {
+            self.control = Control::Stop;
+            return false;
+        }
+        self.steps -= 1;
+        true
+    }
+}
