@@ -1,4 +1,4 @@
-use Rattle.std.proofs.Common.{◌∙◌, sym, ap, subst, nat_eq}
+use Rattle.std.proofs.Common.{◌∙◌, sym, ap, subst}
 use Rattle.world_heap.specs.Maps.{keys, Stands, keys-put, find-stands}
 use Rattle.world_heap.specs.Bodies.{with_byte}
 use Rattle.world_heap.specs.Views.{HeapView}
