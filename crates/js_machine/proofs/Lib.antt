@@ -3,3 +3,4 @@ pub mod Allocating
 pub mod Testing
 pub mod Messages
 pub mod Errors
+pub mod Stepping
