@@ -4,3 +4,4 @@ pub mod Testing
 pub mod Messages
 pub mod Errors
 pub mod Stepping
+pub mod Receiving
