@@ -1,0 +1,4 @@
+pub mod Bounded
+pub mod Names
+pub mod Manifest
+pub mod Answer
