@@ -1,6 +1,6 @@
 -- What the calls that read a manifest answer: as the definitions, but for memory, which may run out everywhere.
 use Rattle.std.specs.Prelude.{◌≡◌, ℕ, List, Bool, true, false, Option, Some, None, Result, Ok, Err, codes}
-use Rattle.app_manifest.specs.Bounded.{bounds_of}
+use Rattle.world_heap.specs.Bounded.{bounds_of}
 use Rattle.app_manifest.specs.Manifest.{Said}
 use Rattle.app_manifest.specs.declared.plan.ManifestFault.{ManifestFault}
 use Rattle.app_manifest.specs.declared.plan.ManifestFault.TheVariants.{Json, Shape, Memory}

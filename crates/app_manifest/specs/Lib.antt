@@ -1,4 +1,5 @@
-pub mod Bounded
 pub mod Names
 pub mod Manifest
 pub mod Answer
+pub mod App
+pub mod Clauses

@@ -7,7 +7,7 @@ use Rattle.std.specs.Str.{is_utf8}
 use Rattle.serde_json.specs.Data.{Data, Items, no_items, item, Members, no_members, member}
 use Rattle.serde_json.specs.Find.{get, as_object, as_array, as_str, as_number, as_u64}
 use Rattle.serde_json.specs.Read.{read}
-use Rattle.app_manifest.specs.Bounded.{Bounds}
+use Rattle.world_heap.specs.Views.{Bounds}
 use Rattle.app_manifest.specs.Names.{is_file_name}
 use Rattle.app_manifest.specs.declared.plan.ManifestFault.{ManifestFault}
 use Rattle.app_manifest.specs.declared.plan.ManifestFault.TheVariants.{Json, Shape}

@@ -1,8 +1,12 @@
 //! Reads the folder of an application: its manifest and its scripts, or the first refusal.
 #![tactic(auto)]
 
+mod app;
 mod keys;
-mod limits;
 mod manifest;
 mod name;
 mod plan;
+mod reading;
+
+pub use app::{App, AppFault, Script, WindowApp};
+pub use reading::read_app;

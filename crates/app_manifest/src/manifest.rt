@@ -5,15 +5,15 @@ ghost use Rattle.serde_json.specs.Find.{get};
 ghost use Rattle.serde_json.specs.View.{view, items_view};
 ghost use Rattle.app_manifest.specs.Manifest.{all_objects, are_windows, window_broken, window_said, windows_broken, windows_broken_in, windows_said, each_window_broken, each_window_said, limits_broken, limits_said, each_limit_broken, each_limit_said, default_limits, first_broken_key, object_broken, object_said, said_of, said_in_value, said_by_none};
 ghost use Rattle.app_manifest.specs.Answer.{Says, PlanAnswers, itself, said_by};
-ghost use Rattle.app_manifest.specs.Bounded.{bounds_of};
+ghost use Rattle.world_heap.specs.Bounded.{bounds_of};
 
 use crate::keys::{broken, limit, optional_name, refuse_unknown, required_name};
-use crate::limits::Limits;
 use crate::name::FileName;
 use crate::plan::{ManifestFault, Place, Plan, WindowPlan};
 use serde_json::Value;
 use sqlite_items::Items;
 use std::alloc::{AllocError, Global};
+use world_heap::Limits;
 
 /// The greatest number of windows of an application.
 const WINDOWS: usize = 8;

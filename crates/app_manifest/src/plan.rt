@@ -2,10 +2,10 @@
 ghost use Rattle.std.specs.Prelude.{◌≡◌, ◌≤◌, length};
 ghost use Rattle.app_manifest.specs.declared.plan.ManifestFault.TheVariants.{Memory};
 
-use crate::limits::Limits;
 use crate::name::FileName;
 use sqlite_items::Items;
 use std::alloc::{AllocError, AllocFailed};
+use world_heap::Limits;
 
 /// The files of a window.
 #[derive(Drop)]
