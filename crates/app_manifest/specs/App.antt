@@ -110,10 +110,11 @@ IsReached ((name, refusal) ∷ rest) file = (name ≡ file) ⊎ ((refusal ≡ No
 
 -- ---- the application
 
--- Its limits and the bytes of its scripts: the main script's, and for each window its preload script's, none where it
+-- Its limits, the name of its main script, and the bytes of its scripts: the main script's, and for each window its preload script's, none where it
 -- has none, and its page script's.
 pub record Texts : Type 0 where
   pub limits : Bounds
+  pub name : List ℕ
   pub main : List ℕ
   pub windows : List (List ℕ × List ℕ)
 
@@ -126,6 +127,7 @@ window_texts files app window = (option_map_or (bytes_at files app) window.prelo
 unfoldable pub texts_said : Files → List ℕ → Said → Texts
 texts_said files app said = record {
   limits = said.limits;
+  name = said.main;
   main = bytes_at files app said.main;
   windows = map (window_texts files app) said.windows;
 }

@@ -14,7 +14,7 @@ abbrev pub window_read : WindowApp → List ℕ × List ℕ
 window_read window = (window.preload.bytes, window.page.bytes)
 
 abbrev pub texts_of : App → Texts
-texts_of app = record { limits = bounds_of app.limits; main = app.main.bytes; windows = map window_read app.windows }
+texts_of app = record { limits = bounds_of app.limits; name = app.name; main = app.main.bytes; windows = map window_read app.windows }
 
 -- a file of the application's folder
 abbrev pub IsNamed : List ℕ → List ℕ → Type 0

@@ -3,6 +3,7 @@ ghost use Rattle.std.specs.Prelude.{◌≡◌, ◌≤◌, Ok, length};
 ghost use Rattle.js_source.specs.Source.{source_of};
 ghost use Rattle.app_manifest.specs.declared.app.AppFault.TheVariants.{Memory};
 
+use crate::name::FileName;
 use js_source::SourceKind;
 use js_tree::Tree;
 use sqlite_items::Items;
@@ -28,6 +29,8 @@ pub struct WindowApp {
 #[derive(Drop)]
 pub struct App {
     pub limits: Limits,
+    /// The name of the main script's file in the application's folder.
+    pub name: FileName,
     pub main: Script,
     pub windows: Items<WindowApp>,
     pub ghost few: { length windows ≤ 8 },

@@ -7,6 +7,9 @@ mod manifest;
 mod name;
 mod plan;
 mod reading;
+#[cfg(test)]
+mod tests;
 
 pub use app::{App, AppFault, Script, WindowApp};
+pub use name::FileName;
 pub use reading::read_app;

@@ -59,6 +59,7 @@ pub fn read_app<F: Folder>(alloc: Global, folder: &mut F, name: &str) -> Result<
     };
     Ok(App {
         limits: plan.limits,
+        name: plan.main,
         main,
         windows,
     })

@@ -40,7 +40,7 @@ returns-clause-ok g c =
     let main = rw c.in-Ok.ensures.files at c.in-Ok-read_script.ensures.ok in
     let windows = rw (c.in-Ok-read_script.ensures.files, c.in-Ok.ensures.files, c.as_slice.ensures) at c.in-Ok-read_windows.ensures.ok in
     reads-all c.args.name.now files said c.in-Ok.ensures.ok
-    (record { limits = said.limits; main = c.in-Ok-read_script.main.bytes; windows = map window_read c.in-Ok-read_windows.windows })
+    (record { limits = said.limits; name = said.main; main = c.in-Ok-read_script.main.bytes; windows = map window_read c.in-Ok-read_windows.windows })
     (reads-more files c.args.name.now (said.main ∷ []) (flat_map window_scripts said.windows) _ _ main
-    (λ main windows. record { limits = said.limits; main = main; windows = windows })
+    (λ main windows. record { limits = said.limits; name = said.main; main = main; windows = windows })
     (λ f. map (window_texts f c.args.name.now) said.windows) (map window_read c.in-Ok-read_windows.windows) windows)
