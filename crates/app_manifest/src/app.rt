@@ -10,11 +10,12 @@ use sqlite_items::Items;
 use std::alloc::{AllocError, AllocFailed};
 use world_heap::Limits;
 
-/// A script: its bytes, and the syntax tree that they are.
+/// A script: its bytes, at most 262,144, and the syntax tree that they are.
 #[derive(Drop)]
 pub struct Script {
     pub bytes: Items<u8>,
     pub tree: Tree,
+    pub ghost short: { length bytes ≤ 262_144 },
     pub ghost read: { source_of bytes ≡ Ok tree },
 }
 
