@@ -5,7 +5,8 @@ use Rattle.js_semantics.specs.declared.entry.Mode.{Mode}
 use Rattle.js_semantics.specs.declared.entry.Mode.TheVariants.{Idle}
 use Rattle.js_semantics.specs.declared.entry.Entry.TheVariants as entry
 use Rattle.js_semantics.specs.World.{World, limited}
-use Rattle.js_semantics.specs.Prog.{Prog, Cont, Outcome, End, Over, Enter, Make, Read, Write, Place, Await, Request, bind}
+use Rattle.js_semantics.specs.declared.outcome.Outcome.{Outcome}
+use Rattle.js_semantics.specs.Prog.{Prog, Cont, End, Over, Enter, Make, Read, Write, Place, Await, Request, bind}
 use Rattle.js_semantics.specs.Rows.{row}
 use Rattle.js_semantics.specs.Run.{Arrival, Trace, Then, Cut, Ending, Entering, Placing, Waiting, entries, walk, take_place, go_with, end_with, spend, receive, refilled, fits, deliver, run, first_world}
 use Rattle.js_semantics.specs.Alone.{Begins, IsContinued, alone, alone_by, trace_of, cells_of}

@@ -18,8 +18,11 @@ use Rattle.world_heap.specs.declared.cell.MapEntry.{MapEntry}
 use Rattle.world_heap.specs.declared.cell.Cell.{Cell}
 use Rattle.world_heap.specs.declared.cell.Cell.TheVariants.{Object, Array, Closure, Native, Far, Error, Map, Set, Promise, Port, Buffer, View, Symbol, Env}
 use Rattle.js_semantics.specs.declared.entry.Entry.{Entry}
-use Rattle.js_semantics.specs.World.{Heap, Scope}
-use Rattle.js_semantics.specs.Prog.{Outcome, Normal, Return, Break, Continue, Thrown, Request, Step, Script, Node, Bind, Member, While, DoWhile, For, ForOf, Native as CallNative}
+use Rattle.js_semantics.specs.declared.scope.Scope.{Scope}
+use Rattle.js_semantics.specs.World.{Heap}
+use Rattle.js_semantics.specs.declared.outcome.Outcome.{Outcome}
+use Rattle.js_semantics.specs.declared.outcome.Outcome.TheVariants.{Normal, Return, Break, Continue, Thrown}
+use Rattle.js_semantics.specs.Prog.{Request, Step, Script, Node, Bind, Member, While, DoWhile, For, ForOf, Native as CallNative}
 use Rattle.js_semantics.specs.Run.{Arrival, Setting, entries}
 use Rattle.js_semantics.specs.Renamed.{Permutation, State, Left, Ends, Stays, evaluated, left_of, value_renamed, property_renamed, member_renamed, body_renamed, promise_renamed, reaction_renamed, binding_renamed, entry_renamed, cell_renamed, heap_renamed, outcome_renamed, scope_renamed, request_renamed, state_renamed, left_renamed, IsAgreeing}
 use Rattle.js_semantics.proofs.Relocating.{same_line}

@@ -3,7 +3,8 @@ use Rattle.std.proofs.Common.{◌≡◌, ℕ, zero, suc, List, [], ◌∷◌, Bo
 use Rattle.js_semantics.specs.declared.entry.Entry.TheVariants as entry
 use Rattle.js_semantics.specs.declared.entry.Mode.{Mode}
 use Rattle.js_semantics.specs.World.{World}
-use Rattle.js_semantics.specs.Prog.{Prog, Cont, Outcome, End, Over, Make, Read, Write, Place, Enter, Await, Request, bind}
+use Rattle.js_semantics.specs.declared.outcome.Outcome.{Outcome}
+use Rattle.js_semantics.specs.Prog.{Prog, Cont, End, Over, Make, Read, Write, Place, Enter, Await, Request, bind}
 use Rattle.js_semantics.specs.Rows.{row}
 use Rattle.js_semantics.specs.Run.{Arrival, Trace, Then, Cut, Budget, end_with, spend, take_place, receive, run, refilled, fits, deliver, and_then}
 use Rattle.js_semantics.specs.Alone.{IsRecursive}

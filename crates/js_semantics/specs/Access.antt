@@ -14,8 +14,11 @@ use Rattle.js_tree.specs.declared.node.Function.{Function}
 use Rattle.js_tree.specs.declared.node.Node.{Node}
 use Rattle.js_tree.specs.declared.node.Node.TheVariants as kinds
 use Rattle.js_semantics.specs.declared.fault.Fault.TheVariants.{NotAFunction, NotAnObject, ReadOnly, TooManyCalls, NotDefined, NotReady}
-use Rattle.js_semantics.specs.World.{World, Scope, built_in, cell_of, with_cell}
-use Rattle.js_semantics.specs.Prog.{Prog, Cont, Outcome, Normal, Return, Break, Continue, Thrown, End, Enter, Read, Write, Bind, Native, Node as NodeRequest, bind, on_value, eval, alloc, change, count_places, give, throw, make_text}
+use Rattle.js_semantics.specs.declared.scope.Scope.{Scope}
+use Rattle.js_semantics.specs.World.{World, built_in, cell_of, with_cell}
+use Rattle.js_semantics.specs.declared.outcome.Outcome.{Outcome}
+use Rattle.js_semantics.specs.declared.outcome.Outcome.TheVariants.{Normal, Return, Break, Continue, Thrown}
+use Rattle.js_semantics.specs.Prog.{Prog, Cont, End, Enter, Read, Write, Bind, Native, Node as NodeRequest, bind, on_value, eval, alloc, change, count_places, give, throw, make_text}
 use Rattle.proto_props.specs.declared.get.Got.{Got}
 use Rattle.proto_props.specs.declared.get.Got.TheVariants.{Value as Given, CallGetter, Absent, Refused}
 use Rattle.proto_props.specs.Gets.{gets}
@@ -83,16 +86,19 @@ module _ {L : Type 0} where
   run_body function arguments scope = bind_parameters function.parameters function.rest arguments scope (Enter (NodeRequest function.body scope) (λ o. End o))
 
   -- an environment with the parameters, and the function in it
-  abbrev pub run_function : Option Function → L → Value L → List (Value L) → Cont L → Prog L
-  run_function None env receiver arguments k = bind (throw NotAFunction) (leave k)
-  run_function (Some function) env receiver arguments k =
+  abbrev pub run_function : Function → L → Value L → List (Value L) → Cont L → Prog L
+  run_function function env receiver arguments k =
       Read (λ w. alloc (env_cell (Some env) (parameters_of w.tree (patterns_of function))) (λ inner. bind (run_body function arguments (record { env = inner; receiver = receiver })) (leave k)))
 
-  -- A call of a closure is active until it ends; one above the limit is an error.
+  -- A call is active until it ends; one above the limit is an error.
+  abbrev pub activate : Option Function → L → Value L → List (Value L) → Cont L → World L → Prog L
+  activate None env receiver arguments k w = throw NotAFunction
+  activate (Some function) env receiver arguments k w =
+      if nat_lt w.depth w.limits.depth then Write (record w { depth = w.depth + 1 }) (run_function function env receiver arguments k) else throw TooManyCalls
+
+  -- a call of the function of a node
   unfoldable pub invoke : ℕ → L → Value L → List (Value L) → Cont L → Prog L
-  invoke node env receiver arguments k = Read (λ w. if nat_lt w.depth w.limits.depth
-      then Write (record w { depth = w.depth + 1 }) (run_function (function_of (slice_get w.tree node)) env receiver arguments k)
-      else throw TooManyCalls)
+  invoke node env receiver arguments k = Read (λ w. activate (function_of (slice_get w.tree node)) env receiver arguments k w)
 
   -- Calls what stands there, with a receiver; what can't be called is an error. An arrow function keeps its receiver.
   abbrev pub call_cell : Option (Cell L) → Value L → List (Value L) → (Value L → Prog L) → Prog L

@@ -15,7 +15,8 @@ use Rattle.js_tree.specs.declared.node.UpdateOperator.TheVariants.{Increment, De
 use Rattle.js_tree.specs.declared.node.Node.{Node}
 use Rattle.js_tree.specs.declared.node.Node.TheVariants as kinds
 use Rattle.js_semantics.specs.declared.fault.Fault.TheVariants.{NotAnObject, WrongOperand, NotDefined}
-use Rattle.js_semantics.specs.World.{World, Scope, cell_at, cell_of}
+use Rattle.js_semantics.specs.declared.scope.Scope.{Scope}
+use Rattle.js_semantics.specs.World.{World, cell_at, cell_of}
 use Rattle.js_semantics.specs.Prog.{Prog, Read, eval, step, give, throw, make_text}
 use Rattle.js_semantics.specs.Properties.{has_property, object_of}
 use Rattle.js_semantics.specs.Operators.{Computed, Is, Makes, Fails, is_truthy, primitive_text, key_of, strictly_equal, whole, of_operands, unary_of}

@@ -10,7 +10,8 @@ use Rattle.js_tree.specs.declared.node.NodeId.{NodeId}
 use Rattle.js_tree.specs.declared.node.Node.{Node}
 use Rattle.js_tree.specs.declared.node.Node.TheVariants as kinds
 use Rattle.js_semantics.specs.declared.fault.Fault.TheVariants.{NotIterable}
-use Rattle.js_semantics.specs.World.{World, Scope, cell_at, with_cell}
+use Rattle.js_semantics.specs.declared.scope.Scope.{Scope}
+use Rattle.js_semantics.specs.World.{World, cell_at, with_cell}
 use Rattle.js_semantics.specs.Prog.{Prog, Read, eval, step, change, count_places, throw, make_text}
 use Rattle.js_semantics.specs.Access.{make_array}
 

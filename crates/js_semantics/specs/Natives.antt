@@ -13,7 +13,8 @@ use Rattle.js_semantics.specs.declared.native.Native.TheVariants.{Console, Error
 use Rattle.js_semantics.specs.declared.fault.Fault.TheVariants.{NotAFunction, WrongArgument}
 use Rattle.js_semantics.specs.declared.entry.Product.TheVariants as products
 use Rattle.js_semantics.specs.World.{World}
-use Rattle.js_semantics.specs.Prog.{Prog, End, Thrown, Make, Read, give, throw, make_error, count_units}
+use Rattle.js_semantics.specs.declared.outcome.Outcome.TheVariants.{Thrown}
+use Rattle.js_semantics.specs.Prog.{Prog, End, Make, Read, give, throw, make_error, count_units}
 use Rattle.js_semantics.specs.Properties.{same_text}
 use Rattle.js_semantics.specs.Display.{line_of}
 

@@ -18,7 +18,8 @@ use Rattle.js_tree.specs.declared.node.PropertyKey.TheVariants.{Written, Compute
 use Rattle.js_tree.specs.declared.node.Node.{Node}
 use Rattle.js_tree.specs.declared.node.Node.TheVariants as kinds
 use Rattle.js_semantics.specs.declared.fault.Fault.TheVariants.{NotAConstructor}
-use Rattle.js_semantics.specs.World.{World, Scope, built_in, cell_of}
+use Rattle.js_semantics.specs.declared.scope.Scope.{Scope}
+use Rattle.js_semantics.specs.World.{World, built_in, cell_of}
 use Rattle.js_semantics.specs.Prog.{Prog, Enter, Read, Member, Native, on_value, eval, step, alloc, change, give, done, throw}
 use Rattle.js_semantics.specs.Properties.{plain, with_getter, with_setter, object_of}
 use Rattle.js_semantics.specs.Environments.{unready, env_cell, bind_in}
@@ -33,6 +34,14 @@ abbrev pub is_constructor : Option Node → Bool
 is_constructor (Some (kinds.FunDecl name function)) = true
 is_constructor (Some (kinds.Fun name function)) = true
 is_constructor other = false
+
+-- the key that a member is written with
+abbrev pub member_key_of : Option Node → Option PropertyKey
+member_key_of (Some (kinds.Property key value)) = Some key
+member_key_of (Some (kinds.Method key function)) = Some key
+member_key_of (Some (kinds.Getter key function)) = Some key
+member_key_of (Some (kinds.Setter key function)) = Some key
+member_key_of other = None
 
 module _ {L : Type 0} where
   -- a body without properties
@@ -71,17 +80,24 @@ module _ {L : Type 0} where
   member_key (Written text) scope k = k text
   member_key (Computed node) scope k = eval node scope (λ v. with_key (key_of v) k)
 
+  -- the definition of a member under its key
+  abbrev pub member_under : Option Node → NodeId → L → Scope L → List ℕ → Prog L
+  member_under (Some (kinds.Property key value)) node loc scope text = eval value scope (λ v. define loc text (λ old. plain v) done)
+  member_under (Some (kinds.Method key function)) node loc scope text =
+      make_closure node scope.env None (λ f. define loc text (λ old. plain (Ref f)) done)
+  member_under (Some (kinds.Getter key function)) node loc scope text =
+      make_closure node scope.env None (λ f. define loc text (λ old. with_getter f old) done)
+  member_under (Some (kinds.Setter key function)) node loc scope text =
+      make_closure node scope.env None (λ f. define loc text (λ old. with_setter f old) done)
+  member_under other node loc scope text = done
+
+  abbrev pub member_keyed : Option PropertyKey → Option Node → NodeId → L → Scope L → Prog L
+  member_keyed None member node loc scope = done
+  member_keyed (Some key) member node loc scope = member_key key scope (λ text. member_under member node loc scope text)
+
   -- The row of a member, which defines a property of the object.
   unfoldable pub member_of : Option Node → NodeId → L → Scope L → Prog L
-  member_of (Some (kinds.Property key value)) node loc scope =
-      member_key key scope (λ text. eval value scope (λ v. define loc text (λ old. plain v) done))
-  member_of (Some (kinds.Method key function)) node loc scope =
-      member_key key scope (λ text. make_closure node scope.env None (λ f. define loc text (λ old. plain (Ref f)) done))
-  member_of (Some (kinds.Getter key function)) node loc scope =
-      member_key key scope (λ text. make_closure node scope.env None (λ f. define loc text (λ old. with_getter f old) done))
-  member_of (Some (kinds.Setter key function)) node loc scope =
-      member_key key scope (λ text. make_closure node scope.env None (λ f. define loc text (λ old. with_setter f old) done))
-  member_of other node loc scope = done
+  member_of member node loc scope = member_keyed (member_key_of member) member node loc scope
 
   -- 15.2.5 and 15.3.4 Function Definitions
 

@@ -15,16 +15,11 @@ use Rattle.js_semantics.specs.declared.entry.Stop.TheVariants.{Cells, Units}
 use Rattle.js_semantics.specs.declared.entry.Mode.{Mode}
 use Rattle.js_semantics.specs.declared.entry.Product.{Product}
 use Rattle.js_semantics.specs.declared.entry.Product.TheVariants.{Stopped}
-use Rattle.js_semantics.specs.World.{World, Scope, built_in}
+use Rattle.js_semantics.specs.declared.scope.Scope.{Scope}
+use Rattle.js_semantics.specs.declared.outcome.Outcome.{Outcome}
+use Rattle.js_semantics.specs.declared.outcome.Outcome.TheVariants.{Normal, Return, Break, Continue, Thrown}
+use Rattle.js_semantics.specs.World.{World, built_in}
 use Rattle.js_semantics.specs.Faults.{kind_of, message_of, kind_number, prototype_of_kind}
-
--- how the evaluation of a node ends: a value, a jump, or a thrown value
-pub data Outcome (L : Type 0) : Type 0 where
-  Normal : Value L → Outcome L
-  Return : Value L → Outcome L
-  Break : Outcome L
-  Continue : Outcome L
-  Thrown : Value L → Outcome L
 
 -- What may be entered for a step. Each but the first, the script and a call is a node that is entered.
 pub data Request (L : Type 0) : Type 0 where

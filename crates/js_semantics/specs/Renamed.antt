@@ -13,8 +13,11 @@ use Rattle.world_heap.specs.declared.cell.Binding.{Binding}
 use Rattle.world_heap.specs.declared.cell.MapEntry.{MapEntry}
 use Rattle.world_heap.specs.declared.cell.Cell.{Cell}
 use Rattle.world_heap.specs.declared.cell.Cell.TheVariants.{Object, Array, Closure, Native, Far, Error, Map, Set, Promise, Port, Buffer, View, Symbol, Env}
-use Rattle.js_semantics.specs.World.{World, Heap, Scope}
-use Rattle.js_semantics.specs.Prog.{Outcome, Normal, Return, Break, Continue, Thrown, Request, Step, Script, Node, Bind, Member, While, DoWhile, For, ForOf, Native as CallNative, Enter, End}
+use Rattle.js_semantics.specs.declared.scope.Scope.{Scope}
+use Rattle.js_semantics.specs.World.{World, Heap}
+use Rattle.js_semantics.specs.declared.outcome.Outcome.{Outcome}
+use Rattle.js_semantics.specs.declared.outcome.Outcome.TheVariants.{Normal, Return, Break, Continue, Thrown}
+use Rattle.js_semantics.specs.Prog.{Request, Step, Script, Node, Bind, Member, While, DoWhile, For, ForOf, Native as CallNative, Enter, End}
 use Rattle.js_semantics.specs.Run.{Arrival, Budget, Setting, Trace, Then, Ended, Cut, entries, run}
 
 -- a one-to-one map of the numbers onto themselves

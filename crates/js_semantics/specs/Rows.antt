@@ -4,8 +4,9 @@ use Rattle.world_heap.specs.declared.value.Value.TheVariants.{Null, Bool as Bool
 use Rattle.js_tree.specs.declared.node.NodeId.{NodeId}
 use Rattle.js_tree.specs.declared.node.Node as nodes
 use Rattle.js_tree.specs.declared.node.Node.TheVariants as kinds
-use Rattle.js_semantics.specs.World.{Scope}
-use Rattle.js_semantics.specs.Prog.{Prog, Break, Continue, End, Read, Request, Step, Script, Node, Bind, Member, While, DoWhile, For, ForOf, Native, bind, on_value, give, done}
+use Rattle.js_semantics.specs.declared.scope.Scope.{Scope}
+use Rattle.js_semantics.specs.declared.outcome.Outcome.TheVariants.{Break, Continue}
+use Rattle.js_semantics.specs.Prog.{Prog, End, Read, Request, Step, Script, Node, Bind, Member, While, DoWhile, For, ForOf, Native, bind, on_value, give, done}
 use Rattle.js_semantics.specs.Expressions.{row_name, row_this, row_template, row_dot, row_index, row_update, row_unary, row_typeof, row_delete, row_binary, row_and, row_or, row_nullish, row_cond, row_seq, row_assign, row_assign_with}
 use Rattle.js_semantics.specs.Objects.{row_array, row_object, row_fun, row_arrow, row_call, row_new, member_of}
 use Rattle.js_semantics.specs.Statements.{pattern_of, script_of, row_declare, row_block, row_expression, row_if, row_while, row_do_while, row_for, row_for_of, row_return, row_throw, row_try, while_turn, do_turn, for_tested, for_turn, of_bound}

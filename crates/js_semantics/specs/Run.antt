@@ -12,7 +12,9 @@ use Rattle.js_semantics.specs.declared.entry.Mode.TheVariants.{Idle, Crossing}
 use Rattle.js_semantics.specs.declared.entry.Product.TheVariants.{Uncaught, Rest, Stopped}
 use Rattle.js_semantics.specs.declared.entry.Stop.TheVariants.{Fuel, Places}
 use Rattle.js_semantics.specs.World.{World}
-use Rattle.js_semantics.specs.Prog.{Prog, Cont, Outcome, Thrown, End, Over, Enter, Make, Read, Write, Place, Await, Request, Script, bind, count_units}
+use Rattle.js_semantics.specs.declared.outcome.Outcome.{Outcome}
+use Rattle.js_semantics.specs.declared.outcome.Outcome.TheVariants.{Thrown}
+use Rattle.js_semantics.specs.Prog.{Prog, Cont, End, Over, Enter, Make, Read, Write, Place, Await, Request, Script, bind, count_units}
 use Rattle.js_semantics.specs.Display.{line_of}
 use Rattle.js_semantics.specs.Realm.{realm}
 use Rattle.js_semantics.specs.Rows.{row}

@@ -15,8 +15,11 @@ use Rattle.js_tree.specs.declared.node.BindProperty.{BindProperty}
 use Rattle.js_tree.specs.declared.node.Node.{Node}
 use Rattle.js_tree.specs.declared.node.Node.TheVariants as kinds
 use Rattle.js_semantics.specs.declared.fault.Fault.TheVariants.{NotAnObject, NotIterable}
-use Rattle.js_semantics.specs.World.{World, Scope, built_in, cell_at}
-use Rattle.js_semantics.specs.Prog.{Prog, Cont, Outcome, Normal, Return, Break, Continue, Thrown, End, Enter, Read, Node as NodeRequest, While, DoWhile, For, ForOf, bind, on_value, eval, alloc, change, done, throw}
+use Rattle.js_semantics.specs.declared.scope.Scope.{Scope}
+use Rattle.js_semantics.specs.World.{World, built_in, cell_at}
+use Rattle.js_semantics.specs.declared.outcome.Outcome.{Outcome}
+use Rattle.js_semantics.specs.declared.outcome.Outcome.TheVariants.{Normal, Return, Break, Continue, Thrown}
+use Rattle.js_semantics.specs.Prog.{Prog, Cont, End, Enter, Read, Node as NodeRequest, While, DoWhile, For, ForOf, bind, on_value, eval, alloc, change, done, throw}
 use Rattle.js_semantics.specs.Environments.{names_of, declared_in, unready, env_cell, bind_in, fill_name, bindings_at}
 use Rattle.js_semantics.specs.Operators.{is_truthy}
 use Rattle.js_semantics.specs.Access.{or_default, bind_value, get}

@@ -1,5 +1,5 @@
 -- What a script reads and changes as it runs: its realm and heap (ECMA-262, 9.3), and what a world may use and has used.
-use Rattle.std.specs.Prelude.{ℕ, List, Option, Some, None, Bool, nat_lt, if◌then◌else◌, slice_get, option_map}
+use Rattle.std.specs.Prelude.{ℕ, ◌+◌, List, Option, Some, None, Bool, nat_lt, nat_eq, if◌then◌else◌, slice_get, option_map}
 use Rattle.world_kind.specs.declared.WorldKind.{WorldKind}
 use Rattle.world_heap.specs.declared.cell.Cell.{Cell}
 use Rattle.world_heap.specs.declared.value.Value.{Value}
@@ -7,7 +7,7 @@ use Rattle.world_heap.specs.declared.value.Value.TheVariants.{Undefined, Null, B
 use Rattle.world_heap.specs.declared.builtin.BuiltIn.{BuiltIn}
 use Rattle.world_heap.specs.BuiltIns.{place_of}
 use Rattle.world_heap.specs.Maps.{find, put}
-use Rattle.world_heap.specs.Views.{Bounds}
+use Rattle.world_heap.specs.Views.{Bounds, HeapView}
 use Rattle.js_tree.specs.declared.node.Node.{Node}
 
 -- the cells with their locations, in the order in which they were made
@@ -30,11 +30,6 @@ pub record World (L : Type 0) : Type 0 where
   pub supply : ℕ → Option L
   -- whether two locations are the same
   pub same : L → L → Bool
-
--- Where a node is evaluated: the innermost environment (ECMA-262, 9.1), and what `this` means there.
-pub record Scope (L : Type 0) : Type 0 where
-  pub env : L
-  pub receiver : Value L
 
 -- the first locations, one for each cell that may be made
 abbrev pub limited : {L : Type 0} → ℕ → (ℕ → L) → ℕ → Option L
@@ -61,3 +56,7 @@ module _ {L : Type 0} where
   -- the world with another cell at a location
   abbrev pub with_cell : L → Cell L → World L → World L
   with_cell loc cell w = record w { heap = put w.same w.heap loc cell }
+
+-- a world that has this heap, with its counts and limits
+abbrev pub over : HeapView → World ℕ → World ℕ
+over view w = record w { heap = view.cells; units = view.counts.units; limits = view.limits; same = nat_eq }

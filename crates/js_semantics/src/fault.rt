@@ -3,6 +3,7 @@ ghost use Rattle.std.specs.Prelude.{◌≡◌};
 ghost use Rattle.js_semantics.specs.Faults.{kind_of, message_of};
 
 use parcel::ErrorKind;
+use std::alloc::AllocError;
 
 /// Why a row throws an error.
 #[derive(Debug, Drop, Clone, Copy, PartialEq, Eq)]
@@ -74,5 +75,24 @@ impl Fault {
             Fault::NotReady => "not ready",
             Fault::TooLong => "too long",
         }
+    }
+}
+
+/// Why a step wasn't made: memory ran out, or a location was met that stands nowhere in the heap, which no script comes
+/// to.
+#[derive(Debug, Drop, Clone, Copy, PartialEq, Eq)]
+pub enum StepFault {
+    Memory,
+    Dangling,
+}
+
+impl From<AllocError> for StepFault {
+    ghost use Rattle.std.specs.Prelude.{◌≡◌};
+    ghost use Rattle.js_semantics.specs.declared.fault.StepFault.TheVariants.{Memory};
+
+    ghost from_gives = { λ _ fault. fault ≡ Memory };
+
+    fn from(_error: AllocError) -> StepFault {
+        StepFault::Memory
     }
 }

@@ -5,8 +5,12 @@ mod entry;
 mod fault;
 mod laws;
 mod native;
+mod outcome;
+mod scope;
 
 pub use entry::{Delivery, Entry, Mode, Product, Stop};
-pub use fault::Fault;
+pub use fault::{Fault, StepFault};
 pub use laws::{agreeing, continued, determined, recursive, renaming};
 pub use native::Native;
+pub use outcome::Outcome;
+pub use scope::Scope;
