@@ -55,7 +55,11 @@ fn put_in(
     }
 }
 
-/// Puts another property under a key that stands in the body of a cell.
+/// Puts another property under a key that stands in the body of a cell, whatever stands there, and counts nothing. `alloc`
+/// is that of the heap. The cost is constant on average.
+///
+/// # Errors
+/// Memory ran out; the heap is then as it was.
 pub fn put_property(
     alloc: Global,
     heap: &mut Heap,
@@ -74,7 +78,11 @@ pub fn put_property(
     }
 }
 
-/// Puts a property under a new key into the body of a cell, and counts a place.
+/// Puts a property under a new key into the body of a cell, whether it can be extended or not, and counts a place. `alloc`
+/// is that of the heap. The cost is constant on average.
+///
+/// # Errors
+/// The count of places would pass its limit, or else memory ran out; the heap is then as it was.
 pub fn add_property(
     alloc: Global,
     heap: &mut Heap,
@@ -164,7 +172,11 @@ fn push_in(alloc: Global, heap: &mut Heap, loc: Loc, value: Value) -> Result<(),
     }
 }
 
-/// Adds an element to an array that isn't frozen, and counts a place.
+/// Adds an element to an array that isn't frozen, and counts a place. `alloc` is that of the heap. The cost is constant on
+/// average.
+///
+/// # Errors
+/// The count of places would pass its limit, or else memory ran out; the heap is then as it was.
 pub fn push_item(
     alloc: Global,
     heap: &mut Heap,
