@@ -1,1 +1,6 @@
 pub mod Guided
+pub mod Sound
+pub mod Walk
+pub mod Symbols
+pub mod Parted
+pub mod Bindings

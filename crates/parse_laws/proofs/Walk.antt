@@ -1,0 +1,307 @@
+-- Steps by which what the parser reads is compared with what is read by the grammar.
+use Rattle.std.proofs.Common.{inl, inr, true, false, Bool, ◌⊎◌, ◌≡◌, ℕ, zero, suc, ◌+◌, ◌<◌, ◌≤◌, List, [], ◌∷◌, ◌++◌, length, refl, ap, sym, subst, ◌∙◌, arith}
+use Rattle.std.proofs.lemmas.List.{append-nil}
+use Rattle.std.specs.Prelude.{if◌then◌else◌, Option, Some, None, Ok, Err}
+use Rattle.grammar.specs.Kinds.{among, kept, alike}
+use Rattle.grammar.specs.Grammar.{Tree, tip, leaf, pair, node, Grammar, empty, token, call, line, both, either, fork, many, named, prefer, starting, on, entry, Language, starts, Derives}
+use Rattle.grammar.specs.Reading.{firsts, nullable}
+use Rattle.grammar.specs.Tests.{Fits, InPlace}
+use Rattle.grammar.proofs.Sets.{is_or_not, begun-surely}
+use Rattle.grammar.proofs.Complete.{derives-begun, spells-begun}
+use Rattle.js_token.specs.declared.token.Token.{Token}
+use Rattle.js_tree.specs.Nodes.{Nodes}
+use Rattle.js_grammar.specs.Kinds.{kinds, unbroken_kinds, names, reserved, place_in as kind_place, marks, words, contextual}
+use Rattle.js_grammar.specs.Script.{rules, heads, script_language, pattern_rule, primary_rule, member_rule, left_rule, unary_rule, mul_rule, add_rule, shift_rule, rel_rule, equal_rule, bit_and_rule, bit_xor_rule, bit_or_rule, and_rule, or_rule, short_rule, cond_rule, assign_rule, expr_rule, arrow_rule, prefixed_rule, new_rule, group_rule, index_rule, computed_rule, array_rule, arguments_rule, template_rule, object_rule, function_rule, declared_rule, parameters_rule, no_parameters_rule, one_parameter_rule, stmt_rule, item_rule, block_rule, for_rule, script_rule}
+use Rattle.js_grammar.proofs.Tables.{tails}
+use Rattle.js_grammar.proofs.Passes.{script-fits}
+use Rattle.js_parse.specs.declared.symbol.Symbol.{Symbol}
+use Rattle.js_parse.specs.declared.symbol.Symbol.TheVariants as s
+use Rattle.js_parse.specs.declared.fault.Fault.{Fault}
+use Rattle.js_parse.specs.declared.fault.Fault.TheVariants as fault
+use Rattle.js_parse.specs.Symbols.{same, of_kind, is_name, is_any_name}
+use Rattle.js_parse.specs.Input.{Input, Outcome, Parser, and_then, or_later, later, expect, sees, after, next, refusal, symbol, symbol as symbol_named, is_arrow_ahead, is_arrow_next, ◌>>=◌, peek, here, place, place_at, any_name, text_of, text, take_text, refuse, fork as fork_of}
+use Rattle.parse_laws.specs.Kinds.{token_kind, numbered}
+use Rattle.parse_laws.specs.Trees.{Build, first_token, symbol_in, symbol_of_first, place_in, place_of_first, one_of, Parts, parts_at}
+use Rattle.parse_laws.proofs.Guided.{Was, Goes, done, called, taking, many_of, guided, rule_at, some_same, guided-continues}
+use Rattle.parse_laws.proofs.Sound.{vacant, guided-finds, rule-finds, read-front, read-shorter}
+
+-- the grammar of scripts over tokens of those kinds
+abbrev pub language : Language Token
+language = record { kind = token_kind; rules = entry (token []) rules; heads = entry [] heads }
+
+-- whether an arrow comes, rather than another expression
+unfoldable pub ahead : List Token → Bool
+ahead ts = if sees s.OpenParen (ts, []) then is_arrow_ahead (ts, []) else (if is_name (symbol (ts, [])) then is_arrow_next (ts, []) else false)
+
+abbrev pub rule : ℕ → ℕ → List Token → Was Token
+rule depth = rule_at language ahead depth
+
+-- what the parser tells, without faults
+abbrev pub told : {A : Type 0} → Outcome A → Option (A × Input)
+told (Ok p) = Some p
+told (Err e) = None
+
+-- the nodes of what was read
+abbrev pub built : {A : Type 0} → (Tree Token → Build A) → Nodes → Goes Token (A × Input)
+built b ns tree rest = Some ((b tree ns).0, (rest, (b tree ns).1))
+
+-- The parser reads by the right side, and builds so.
+pub record Sim (depth : ℕ) {A : Type 0} (p : Parser A) (x : Grammar Token) (b : Tree Token → Build A) : Type 0 where
+  pub holds : (ts : List Token) (ns : Nodes) → told (p (ts, ns)) ≡ guided language ahead (rule depth) x ts (built b ns)
+
+pub step-at : {A B : Type 0} (o : Outcome A) (w : Was Token) (b : Tree Token → Build A) (ns : Nodes) (f : A → Parser B) (k : Goes Token (B × Input))
+    → told o ≡ called w (built b ns)
+    → ((tree : Tree Token) (rest : List Token) → w ≡ Some (tree, rest) → told (f (b tree ns).0 (rest, (b tree ns).1)) ≡ k tree rest)
+    → told (and_then o f) ≡ called w k
+step-at (Ok p) None b ns f k e h = absurd (cc (e))
+step-at (Ok p) (Some q) b ns f k e h = ap (λ p. told (f p.0 p.1)) (some_same _ _ e) ∙ h q.0 q.1 refl
+step-at (Err c) None b ns f k e h = refl
+step-at (Err c) (Some q) b ns f k e h = absurd (cc (e))
+
+-- and then goes on
+pub step+ : {depth : ℕ} {A B : Type 0} {p : Parser A} {x : Grammar Token} {b : Tree Token → Build A} → Sim depth p x b → (ts : List Token) (ns : Nodes)
+    → (f : A → Parser B) (k : Goes Token (B × Input))
+    → ((tree : Tree Token) (rest : List Token) → guided language ahead (rule depth) x ts done ≡ Some (tree, rest)
+    → told (f (b tree ns).0 (rest, (b tree ns).1)) ≡ k tree rest)
+    → told (and_then (p (ts, ns)) f) ≡ guided language ahead (rule depth) x ts k
+step+ {depth} {A} {B} {p} {x} {b} sim ts ns f k h =
+    step-at (p (ts, ns)) (guided language ahead (rule depth) x ts done) b ns f k
+    (sim.holds ts ns ∙ guided-continues language ahead (rule depth) (A × Input) x ts (built b ns)) h
+    ∙ sym (guided-continues language ahead (rule depth) (B × Input) x ts k)
+
+pub step : {depth : ℕ} {A B : Type 0} {p : Parser A} {x : Grammar Token} {b : Tree Token → Build A} → Sim depth p x b → (ts : List Token) (ns : Nodes)
+    → (f : A → Parser B) (k : Goes Token (B × Input))
+    → ((tree : Tree Token) (rest : List Token) → told (f (b tree ns).0 (rest, (b tree ns).1)) ≡ k tree rest)
+    → told (and_then (p (ts, ns)) f) ≡ guided language ahead (rule depth) x ts k
+step sim ts ns f k h = step+ sim ts ns f k (λ tree rest e. h tree rest)
+
+-- ---- tokens
+
+-- Of the symbols just that one is of the kinds.
+pub record Only (x : Symbol) (kinds : List ℕ) : Type 0 where
+  pub agrees : (symbol : Symbol) (broken : Bool) → same symbol x ≡ among kinds (numbered symbol broken)
+  pub no_end : same s.End x ≡ false
+
+pub on-true : {A : Type 0} {b : Bool} {m x : A} (y : A) → b ≡ true → m ≡ x → m ≡ (if b then x else y)
+on-true {A} {b} {m} {x} y e h = h ∙ sym (pick b x y e)
+  where
+    pick : (b : Bool) (x y : A) → b ≡ true → (if b then x else y) ≡ x
+    pick true x y e = refl
+    pick false x y e = absurd (cc (e))
+
+pub on-false : {A : Type 0} {b : Bool} {m y : A} (x : A) → b ≡ false → m ≡ y → m ≡ (if b then x else y)
+on-false {A} {b} {m} {y} x e h = h ∙ sym (pick b x y e)
+  where
+    pick : (b : Bool) (x y : A) → b ≡ false → (if b then x else y) ≡ y
+    pick false x y e = refl
+    pick true x y e = absurd (cc (e))
+
+abbrev pub expected : {B : Type 0} → Bool → Input → (Unit {0} → Parser B) → Outcome B
+expected b i f = and_then (if b then Ok (tt, next i) else Err (refusal i)) f
+
+pub step-expect : {B : Type 0} {x : Symbol} {kinds : List ℕ} → Only x kinds → (ts : List Token) (ns : Nodes) (f : Unit {0} → Parser B) (k : Goes Token (B × Input))
+    → ((t : Token) (rest : List Token) → told (f tt (rest, ns)) ≡ k (leaf t) rest)
+    → told (and_then (expect x (ts, ns)) f) ≡ taking language kinds ts k
+unfolding expect sees symbol next token_kind
+step-expect {B} {x} {kinds} only [] ns f k h = ap (λ b. told (expected b ([], ns) f)) only.no_end
+step-expect {B} {x} {kinds} only (t ∷ ts) ns f k h =
+    ap (λ b. told (expected b (t ∷ ts, ns) f)) (only.agrees (of_kind t.kind) t.broken) ∙ by (among kinds (token_kind t))
+  where
+    by : (b : Bool) → told (expected b (t ∷ ts, ns) f) ≡ (if b then k (leaf t) ts else None)
+    by true = h t ts
+    by false = refl
+
+-- ---- a token that may come
+
+pub eat-step : {A : Type 0} {x : Symbol} {kinds : List ℕ} (depth : ℕ) → Only x kinds → (ts : List Token) (ns : Nodes) (g : Bool → Input → Outcome A) (y z : Grammar Token)
+    (k : Goes Token (A × Input))
+    → ((t : Token) (rest : List Token) → told (g true (rest, ns)) ≡ guided language ahead (rule depth) y rest (λ b end. k (pair (leaf t) b) end))
+    → told (g false (ts, ns)) ≡ guided language ahead (rule depth) z ts k
+    → told (g (sees x (ts, ns)) (after x (ts, ns))) ≡ guided language ahead (rule depth) (either (both (token kinds) y) z) ts k
+unfolding guided sees symbol after next token_kind firsts nullable
+eat-step {A} {x} {kinds} depth only [] ns g y z k h o =
+    ap (λ b. told (g b (if b then ([], ns) else ([], ns)))) only.no_end ∙ o
+eat-step {A} {x} {kinds} depth only (t ∷ ts) ns g y z k h o =
+    ap (λ b. told (g b (if b then (ts, ns) else (t ∷ ts, ns)))) (only.agrees (of_kind t.kind) t.broken)
+    ∙ by (among kinds (token_kind t))
+    ∙ ap (λ f. if among f (token_kind t) then (if among kinds (token_kind t) then guided language ahead (rule depth) y ts (λ b end. k (pair (leaf t) b) end) else None)
+        else guided language ahead (rule depth) z (t ∷ ts) k) (sym (append-nil kinds))
+  where
+    by : (b : Bool) → told (g b (if b then (ts, ns) else (t ∷ ts, ns)))
+        ≡ (if b then (if b then guided language ahead (rule depth) y ts (λ b end. k (pair (leaf t) b) end) else None) else guided language ahead (rule depth) z (t ∷ ts) k)
+    by true = h t ts
+    by false = o
+
+-- ---- the first token of a tree
+
+-- Each rule takes a token.
+unfoldable pub AllTake : List (Grammar Token) → Type 0
+AllTake [] = Unit {0}
+AllTake (x ∷ xs) = (vacant x ≡ false) × AllTake xs
+
+pub take-at : (xs : List (Grammar Token)) (n : ℕ) → AllTake xs → vacant (entry (token []) xs n) ≡ false
+unfolding AllTake entry vacant
+take-at [] n a = refl
+take-at (x ∷ xs) zero a = a.0
+take-at (x ∷ xs) (suc n) a = take-at xs n a.1
+
+pub rules-take : AllTake rules
+unfolding AllTake vacant rules pattern_rule primary_rule member_rule left_rule unary_rule mul_rule add_rule shift_rule rel_rule equal_rule bit_and_rule bit_xor_rule bit_or_rule and_rule or_rule short_rule cond_rule assign_rule expr_rule arrow_rule prefixed_rule new_rule group_rule index_rule computed_rule array_rule arguments_rule template_rule object_rule function_rule declared_rule parameters_rule no_parameters_rule one_parameter_rule stmt_rule item_rule block_rule for_rule script_rule
+rules-take = (refl, (refl, (refl, (refl, (refl, (refl, (refl, (refl, (refl, (refl, (refl, (refl, (refl, (refl, (refl, (refl, (refl, (refl, (refl, (refl, (refl, (refl, (refl, (refl, (refl, (refl, (refl, (refl, (refl, (refl, (refl, (refl, (refl, (refl, (refl, (refl, (refl, (refl, (refl, (refl, (refl, (refl, (refl, (refl, (refl, (refl, (refl, (refl, (refl, (refl, (refl, (refl, (refl, (refl, (refl, (refl, (refl, (refl, tt))))))))))))))))))))))))))))))))))))))))))))))))))))))))))
+
+pub each-takes : (n : ℕ) → vacant (language.rules n) ≡ false
+each-takes n = take-at rules n rules-take
+
+pub none-at_end : {C : Type 0} (depth : ℕ) (x : Grammar Token) → vacant x ≡ false → (k : Goes Token C) → guided language ahead (rule depth) x [] k ≡ None
+none-at_end {C} depth x v k = guided-continues language ahead (rule depth) C x [] k ∙ by (guided language ahead (rule depth) x [] done) refl
+  where
+    by : (w : Was Token) → guided language ahead (rule depth) x [] done ≡ w → called w k ≡ None
+    by None e = refl
+    by (Some p) e = let f = read-front language ahead depth each-takes x v [] p.1 p.0 e in absurd (let e = f.2 in cc (e))
+
+pub called-agree : {C : Type 0} (w : Was Token) (k k' : Goes Token C) → ((tree : Tree Token) (rest : List Token) → w ≡ Some (tree, rest) → k tree rest ≡ k' tree rest) → called w k ≡ called w k'
+called-agree None k k' h = refl
+called-agree (Some p) k k' h = h p.0 p.1 refl
+
+-- what goes on may be told another way
+pub goes-so : {C : Type 0} (depth : ℕ) (x : Grammar Token) (ts : List Token) (k k' : Goes Token C)
+    → ((tree : Tree Token) (rest : List Token) → guided language ahead (rule depth) x ts done ≡ Some (tree, rest) → k tree rest ≡ k' tree rest)
+    → guided language ahead (rule depth) x ts k ≡ guided language ahead (rule depth) x ts k'
+goes-so {C} depth x ts k k' h =
+    guided-continues language ahead (rule depth) C x ts k ∙ called-agree (guided language ahead (rule depth) x ts done) k k' h
+    ∙ sym (guided-continues language ahead (rule depth) C x ts k')
+
+pub by-first : {A : Type 0} (depth : ℕ) (by : Symbol → Tree Token → Build A) (x : Grammar Token) → vacant x ≡ false → (t : Token) (ts : List Token) (ns : Nodes)
+    → guided language ahead (rule depth) x (t ∷ ts) (built (by (of_kind t.kind)) ns) ≡ guided language ahead (rule depth) x (t ∷ ts) (built (λ tree. by (symbol_in tree) tree) ns)
+by-first depth by x v t ts ns = goes-so depth x (t ∷ ts) _ _ (λ tree rest e.
+    let f = read-front language ahead depth each-takes x v (t ∷ ts) rest tree e in
+    let same : t ≡ f.0 = let e' = f.2 in cc (e') in
+    ap (λ o. built (by (symbol_of_first o)) ns tree rest) (ap (λ t. Some t) same ∙ sym f.3))
+
+pub at-first : {A : Type 0} (depth : ℕ) (b : ℕ → Tree Token → Build A) (x : Grammar Token) → vacant x ≡ false → (ts : List Token) (ns : Nodes)
+    → guided language ahead (rule depth) x ts (built (b (place_at ts)) ns) ≡ guided language ahead (rule depth) x ts (built (λ tree. b (place_in tree) tree) ns)
+at-first depth b x v ts ns = goes-so depth x ts _ _ (λ tree rest e.
+    let f = read-front language ahead depth each-takes x v ts rest tree e in
+    ap (λ at. built (b at) ns tree rest) (ap (λ ts. place_at ts) f.2 ∙ ap (λ o. place_of_first o) (sym f.3)))
+
+-- ---- by the next token
+
+abbrev pub took : {C : Type 0} → List Token → Goes Token C → Option C
+took [] k = None
+took (t ∷ ts) k = k (leaf t) ts
+
+module _ (depth n : ℕ) where
+  -- where the next token is of the kind n
+  unfoldable pub at_kind : {C : Type 0} → Grammar Token → List Token → Goes Token C → Option C
+  at_kind empty ts k = k tip ts
+  at_kind (token kinds) ts k = if among kinds n then took ts k else None
+  at_kind (both x y) ts k = at_kind x ts (λ a mid. guided language ahead (rule depth) y mid (λ b rest. k (pair a b) rest))
+  at_kind (either x y) ts k = if among (firsts language.heads x) n then at_kind x ts k else at_kind y ts k
+  at_kind (named name x) ts k = at_kind x ts (λ a rest. k (node name a) rest)
+  at_kind (prefer kinds x) ts k = if among kinds n then at_kind x ts k else k tip ts
+  at_kind (starting test x) ts k = if test n then at_kind x ts k else None
+  at_kind (call name) ts k = if among (language.heads name) n then guided language ahead (rule depth) (call name) ts k else None
+  at_kind (line name x) ts k = guided language ahead (rule depth) x ts k
+  at_kind (fork stop x y) ts k = guided language ahead (rule depth) (fork stop x y) ts k
+  at_kind (many more x) ts k = guided language ahead (rule depth) (many more x) ts k
+  at_kind (on test x y z) ts k = guided language ahead (rule depth) (on test x y z) ts k
+
+pub if-alike : {A : Type 0} (b : Bool) (x y x' y' : A) → x ≡ x' → y ≡ y' → (if b then x else y) ≡ (if b then x' else y')
+if-alike true x y x' y' e f = e
+if-alike false x y x' y' e f = f
+
+pub language-fits : Fits language (entry [] tails)
+unfolding script_language
+language-fits = script-fits
+
+-- A rule begins with one of its heads.
+pub begun-call : {C : Type 0} (depth name : ℕ) (t : Token) (ts : List Token) (k : Goes Token C)
+    → guided language ahead (rule depth) (call name) (t ∷ ts) k ≡ (if among (language.heads name) (token_kind t) then guided language ahead (rule depth) (call name) (t ∷ ts) k else None)
+unfolding guided
+begun-call {C} depth name t ts k = by (among (language.heads name) (token_kind t)) (rule depth name (t ∷ ts)) refl refl
+  where
+    by : (b : Bool) (w : Was Token) → among (language.heads name) (token_kind t) ≡ b → rule depth name (t ∷ ts) ≡ w → called w k ≡ (if b then called w k else None)
+    by true w e f = refl
+    by false None e f = refl
+    by false (Some p) e f =
+        let d = rule-finds language ahead depth name (t ∷ ts) p f in
+        let b = begun-surely language (language.heads name) false (t ∷ ts) p.1 refl (derives-begun language (entry [] tails) language-fits depth name (t ∷ ts) p.1 p.0 d) in
+        absurd (let on = b.0 in cc (e, on))
+
+pub at-kind : (C : Type 0) (depth : ℕ) (x : Grammar Token) (t : Token) (ts : List Token) (k : Goes Token C)
+    → at_kind depth (token_kind t) x (t ∷ ts) k ≡ guided language ahead (rule depth) x (t ∷ ts) k
+unfolding at_kind guided
+at-kind C depth empty t ts k = refl
+at-kind C depth (token kinds) t ts k = refl
+at-kind C depth (both x y) t ts k = at-kind C depth x t ts _
+at-kind C depth (either x y) t ts k = if-alike _ _ _ _ _ (at-kind C depth x t ts k) (at-kind C depth y t ts k)
+at-kind C depth (named name x) t ts k = at-kind C depth x t ts _
+at-kind C depth (prefer kinds x) t ts k = if-alike (among kinds (token_kind t)) _ (k tip (t ∷ ts)) _ (k tip (t ∷ ts)) (at-kind C depth x t ts k) refl
+at-kind C depth (starting test x) t ts k = if-alike (test (token_kind t)) _ None _ None (at-kind C depth x t ts k) refl
+at-kind C depth (call name) t ts k = sym (begun-call depth name t ts k)
+at-kind C depth (line name x) t ts k = refl
+at-kind C depth (fork stop x y) t ts k = refl
+at-kind C depth (many more x) t ts k = refl
+at-kind C depth (on test x y z) t ts k = refl
+
+pub kind-at : {C : Type 0} (depth : ℕ) (symbol : Symbol) (broken : Bool) (x : Grammar Token) (t : Token) (ts : List Token) (k : Goes Token C)
+    → of_kind t.kind ≡ symbol → t.broken ≡ broken
+    → guided language ahead (rule depth) x (t ∷ ts) k ≡ at_kind depth (numbered symbol broken) x (t ∷ ts) k
+unfolding token_kind
+kind-at {C} depth symbol broken x t ts k e f =
+    sym (at-kind C depth x t ts k) ∙ ap (λ s. at_kind depth (numbered s t.broken) x (t ∷ ts) k) e ∙ ap (λ b. at_kind depth (numbered symbol b) x (t ∷ ts) k) f
+
+pub dispatch : {A : Type 0} (depth : ℕ) (js : Symbol → Parser A) (by : Symbol → Tree Token → Build A) (x : Grammar Token) → vacant x ≡ false → (t : Token) (ts : List Token) (ns : Nodes)
+    → ((symbol : Symbol) (broken : Bool) → of_kind t.kind ≡ symbol → t.broken ≡ broken → told (js symbol (t ∷ ts, ns)) ≡ at_kind depth (numbered symbol broken) x (t ∷ ts) (built (by symbol) ns))
+    → told (js (of_kind t.kind) (t ∷ ts, ns)) ≡ guided language ahead (rule depth) x (t ∷ ts) (built (λ tree. by (symbol_in tree) tree) ns)
+unfolding token_kind
+dispatch {A} depth js by x v t ts ns h =
+    h (of_kind t.kind) t.broken refl refl ∙ at-kind (A × Input) depth x t ts (built (by (of_kind t.kind)) ns) ∙ by-first depth by x v t ts ns
+
+-- by the symbol of the next token
+pub sim-by : {A : Type 0} (depth : ℕ) (js : Symbol → Parser A) (by : Symbol → Tree Token → Build A) (x : Grammar Token) → vacant x ≡ false
+    → ((ns : Nodes) → told (js s.End ([], ns)) ≡ None)
+    → ((t : Token) (ts : List Token) (ns : Nodes) (symbol : Symbol) (broken : Bool) → of_kind t.kind ≡ symbol → t.broken ≡ broken
+    → told (js symbol (t ∷ ts, ns)) ≡ at_kind depth (numbered symbol broken) x (t ∷ ts) (built (by symbol) ns))
+    → Sim depth (peek >>= js) x (λ tree. by (symbol_in tree) tree)
+unfolding symbol
+sim-by {A} depth js by x v o h = record { holds = holds }
+  where
+    holds : (ts : List Token) (ns : Nodes) → told ((peek >>= js) (ts, ns)) ≡ guided language ahead (rule depth) x ts (built (λ tree. by (symbol_in tree) tree) ns)
+    holds [] ns = o ns ∙ sym (none-at_end depth x v (built (λ tree. by (symbol_in tree) tree) ns))
+    holds (t ∷ ts) ns = dispatch depth js by x v t ts ns (h t ts ns)
+
+-- what tells the kinds of tokens apart, and whether a part may be empty
+unfoldable pub tables : Unit {0}
+unfolding firsts nullable vacant among kept alike heads entry kinds unbroken_kinds names reserved kind_place marks words contextual
+tables = tt
+
+-- ---- more steps
+
+pub assoc : {A B C : Type 0} (o : Outcome A) (f : A → Parser B) (g : B → Parser C) → told (and_then (and_then o f) g) ≡ told (and_then o (λ a i. and_then (f a i) g))
+assoc (Ok p) f g = refl
+assoc (Err e) f g = refl
+
+-- an identifier or a reserved word
+pub any_name-at : {A : Type 0} (symbol : Symbol) (t : Token) (ts : List Token) (ns : Nodes) (f : List ℕ → Parser A) → of_kind t.kind ≡ symbol
+    → told (and_then (any_name (t ∷ ts, ns)) f) ≡ (if is_any_name symbol then told (f (text_of t.kind) (ts, ns)) else None)
+unfolding any_name symbol_named text next
+any_name-at {A} symbol t ts ns f e =
+    by (is_any_name (of_kind t.kind)) ∙ ap (λ s. if is_any_name s then told (f (text_of t.kind) (ts, ns)) else None) e
+  where
+    by : (b : Bool) → told (and_then (if b then take_text (t ∷ ts, ns) else refuse (t ∷ ts, ns)) f) ≡ (if b then told (f (text_of t.kind) (ts, ns)) else None)
+    by true = refl
+    by false = refl
+
+-- Where none of its first kinds comes, nothing is read of a part.
+pub not-begun : {C : Type 0} (depth : ℕ) (x : Grammar Token) → InPlace language.rules x → nullable x ≡ false → (ts : List Token) (k : Goes Token C)
+    → starts language (among (firsts language.heads x)) ts ≡ false → guided language ahead (rule depth) x ts k ≡ None
+not-begun {C} depth x i v ts k o = guided-continues language ahead (rule depth) C x ts k ∙ by (guided language ahead (rule depth) x ts done) refl
+  where
+    by : (w : Was Token) → guided language ahead (rule depth) x ts done ≡ w → called w k ≡ None
+    by None e = refl
+    by (Some p) e =
+        let d = guided-finds language ahead (rule depth) (Derives language depth) (rule-finds language ahead depth) x ts p e in
+        let b = begun-surely language (firsts language.heads x) (nullable x) ts p.1 v
+            (spells-begun language (entry [] tails) language-fits (Derives language depth) (derives-begun language (entry [] tails) language-fits depth) x i ts p.1 p.0 d) in
+        absurd (let on = b.0 in cc (o, on))
