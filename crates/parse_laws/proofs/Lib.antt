@@ -4,3 +4,5 @@ pub mod Walk
 pub mod Symbols
 pub mod Parted
 pub mod Bindings
+pub mod Loops
+pub mod Expressions

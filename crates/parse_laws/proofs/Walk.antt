@@ -113,24 +113,33 @@ step-expect {B} {x} {kinds} only (t ∷ ts) ns f k h =
 
 -- ---- a token that may come
 
+pub eat-or : {A : Type 0} {x : Symbol} {kinds : List ℕ} (depth : ℕ) → Only x kinds → (ts : List Token) (ns : Nodes) (g : Bool → Input → Outcome A) (y : Grammar Token)
+    (k : Goes Token (A × Input)) (m : Option (A × Input))
+    → ((t : Token) (rest : List Token) → ts ≡ t ∷ rest → told (g true (rest, ns)) ≡ guided language ahead (rule depth) y rest (λ b end. k (pair (leaf t) b) end))
+    → told (g false (ts, ns)) ≡ m
+    → told (g (sees x (ts, ns)) (after x (ts, ns)))
+    ≡ (if starts language (among (firsts language.heads (both (token kinds) y))) ts then guided language ahead (rule depth) (both (token kinds) y) ts k else m)
+unfolding guided sees symbol after next token_kind firsts nullable
+eat-or {A} {x} {kinds} depth only [] ns g y k m h o =
+    ap (λ b. told (g b (if b then ([], ns) else ([], ns)))) only.no_end ∙ o
+eat-or {A} {x} {kinds} depth only (t ∷ ts) ns g y k m h o =
+    ap (λ b. told (g b (if b then (ts, ns) else (t ∷ ts, ns)))) (only.agrees (of_kind t.kind) t.broken)
+    ∙ by (among kinds (token_kind t))
+    ∙ ap (λ f. if among f (token_kind t) then (if among kinds (token_kind t) then guided language ahead (rule depth) y ts (λ b end. k (pair (leaf t) b) end) else None)
+        else m) (sym (append-nil kinds))
+  where
+    by : (b : Bool) → told (g b (if b then (ts, ns) else (t ∷ ts, ns)))
+        ≡ (if b then (if b then guided language ahead (rule depth) y ts (λ b end. k (pair (leaf t) b) end) else None) else m)
+    by true = h t ts refl
+    by false = o
+
 pub eat-step : {A : Type 0} {x : Symbol} {kinds : List ℕ} (depth : ℕ) → Only x kinds → (ts : List Token) (ns : Nodes) (g : Bool → Input → Outcome A) (y z : Grammar Token)
     (k : Goes Token (A × Input))
     → ((t : Token) (rest : List Token) → told (g true (rest, ns)) ≡ guided language ahead (rule depth) y rest (λ b end. k (pair (leaf t) b) end))
     → told (g false (ts, ns)) ≡ guided language ahead (rule depth) z ts k
     → told (g (sees x (ts, ns)) (after x (ts, ns))) ≡ guided language ahead (rule depth) (either (both (token kinds) y) z) ts k
-unfolding guided sees symbol after next token_kind firsts nullable
-eat-step {A} {x} {kinds} depth only [] ns g y z k h o =
-    ap (λ b. told (g b (if b then ([], ns) else ([], ns)))) only.no_end ∙ o
-eat-step {A} {x} {kinds} depth only (t ∷ ts) ns g y z k h o =
-    ap (λ b. told (g b (if b then (ts, ns) else (t ∷ ts, ns)))) (only.agrees (of_kind t.kind) t.broken)
-    ∙ by (among kinds (token_kind t))
-    ∙ ap (λ f. if among f (token_kind t) then (if among kinds (token_kind t) then guided language ahead (rule depth) y ts (λ b end. k (pair (leaf t) b) end) else None)
-        else guided language ahead (rule depth) z (t ∷ ts) k) (sym (append-nil kinds))
-  where
-    by : (b : Bool) → told (g b (if b then (ts, ns) else (t ∷ ts, ns)))
-        ≡ (if b then (if b then guided language ahead (rule depth) y ts (λ b end. k (pair (leaf t) b) end) else None) else guided language ahead (rule depth) z (t ∷ ts) k)
-    by true = h t ts
-    by false = o
+unfolding guided
+eat-step depth only ts ns g y z k h o = eat-or depth only ts ns g y k (guided language ahead (rule depth) z ts k) (λ t rest e. h t rest) o
 
 -- ---- the first token of a tree
 
@@ -305,3 +314,9 @@ not-begun {C} depth x i v ts k o = guided-continues language ahead (rule depth) 
         let b = begun-surely language (firsts language.heads x) (nullable x) ts p.1 v
             (spells-begun language (entry [] tails) language-fits (Derives language depth) (derives-begun language (entry [] tails) language-fits depth) x i ts p.1 p.0 d) in
         absurd (let on = b.0 in cc (o, on))
+
+-- the same, where nothing goes on
+pub step-same : {depth : ℕ} {A : Type 0} {p : Parser A} {x : Grammar Token} {b : Tree Token → Build A} → Sim depth p x b → (ts : List Token) (ns : Nodes) (k : Goes Token (A × Input))
+    → ((tree : Tree Token) (rest : List Token) → built b ns tree rest ≡ k tree rest)
+    → told (p (ts, ns)) ≡ guided language ahead (rule depth) x ts k
+step-same {depth} {A} {p} {x} {b} sim ts ns k h = sim.holds ts ns ∙ goes-so depth x ts (built b ns) k (λ tree rest e. h tree rest)
