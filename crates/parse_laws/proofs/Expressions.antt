@@ -1,6 +1,8 @@
 -- Expressions.
 use Rattle.std.proofs.Common.{true, false, Bool, ◌≡◌, ℕ, zero, suc, List, [], ◌∷◌, ◌++◌, length, refl, ap, sym, ◌∙◌, codes}
 use Rattle.std.specs.Prelude.{Option, Some, None, Ok, Err, if◌then◌else◌, is_none}
+use Rattle.grammar.specs.Kinds.{among}
+use Rattle.grammar.specs.Reading.{firsts}
 use Rattle.grammar.specs.Grammar.{Tree, tip, leaf, pair, node, Grammar, both, either, call, empty, token, many, prefer, line}
 use Rattle.js_token.specs.declared.token.Token.{Token}
 use Rattle.js_tree.specs.Nodes.{Nodes}
@@ -8,7 +10,7 @@ use Rattle.js_tree.specs.declared.node.Node.{Node}
 use Rattle.js_tree.specs.declared.node.Node.TheVariants as made
 use Rattle.js_tree.specs.declared.node.NodeId.{NodeId}
 use Rattle.js_grammar.specs.Kinds.{kinds, mark}
-use Rattle.js_grammar.specs.Script.{Rule, identifier, bind, default, right, parameter, any, suffix, member_suffix, punctuator, primary_rule, member_rule, left_rule, unary_rule, expr_rule, assign_rule, commas, assign}
+use Rattle.js_grammar.specs.Script.{Rule, identifier, bind, default, right, parameter, any, always, suffix, member_suffix, punctuator, primary_rule, member_rule, left_rule, unary_rule, expr_rule, assign_rule, commas, assign}
 use Rattle.js_parse.specs.declared.symbol.Symbol.{Symbol}
 use Rattle.js_parse.specs.declared.symbol.Symbol.TheVariants as s
 use Rattle.js_parse.specs.declared.part.Part.{Part}
@@ -16,7 +18,7 @@ use Rattle.js_parse.specs.declared.part.Part.TheVariants as parts
 use Rattle.js_parse.specs.declared.part.Found.{Found}
 use Rattle.js_parse.specs.Symbols.{is_name, of_kind}
 use Rattle.js_parse.specs.Operators.{is_prefix, postfix_node, prefix_node}
-use Rattle.js_parse.specs.Input.{Parser, Outcome, Input, and_then, symbol, text, number, place, place_at, next, add, leaf as leaf_of, name, any_name, refusal, take_text, take_token, refuse, pure, peek, here, ◌<$>◌, ◌>>=◌, expect, eat, seen, sees, after, is_broken, broken_at}
+use Rattle.js_parse.specs.Input.{Parser, Outcome, Input, and_then, symbol, text, number, place, place_at, next, add, leaf as leaf_of, name, any_name, refusal, take_text, take_token, refuse, pure, peek, here, ◌<$>◌, ◌>>=◌, ◌>>◌, expect, eat, seen, sees, after, is_broken, broken_at}
 use Rattle.js_parse.specs.Grammar as g
 use Rattle.js_parse.specs.Nesting.{part_at}
 use Rattle.parse_laws.specs.Kinds.{numbered, token_kind}
@@ -24,7 +26,7 @@ use Rattle.parse_laws.specs.Trees as mk
 use Rattle.parse_laws.specs.Trees.{first_token, Parts, parts_at, place_in, symbol_in, first, second, under, Build}
 use Rattle.parse_laws.proofs.Guided.{guided, many_of, Goes}
 use Rattle.parse_laws.proofs.Sound.{vacant}
-use Rattle.parse_laws.proofs.Walk.{language, ahead, rule, told, built, Sim, step, step+, step-same, step-expect, eat-step, eat-or, at_kind, kind-at, sim-by, dispatch, at-first, by-first, none-at_end, assoc, tables}
+use Rattle.parse_laws.proofs.Walk.{language, ahead, rule, told, built, Sim, step, step+, step-same, step-shown, step-expect, eat-step, eat-or, at_kind, kind-at, sim-by, dispatch, dispatch-or, step-any_name, step-name, at-first, by-first, none-at_end, assoc, tables}
 use Rattle.parse_laws.proofs.Symbols
 use Rattle.parse_laws.proofs.Parted.{Parted}
 use Rattle.parse_laws.proofs.Bindings.{bind_name-sim}
@@ -54,6 +56,16 @@ abbrev pub plain_by : (Part → Parser Found) → Symbol → Parser NodeId
 plain_by part s.New = refuse
 plain_by part symbol = primary_by part symbol
 
+abbrev pub suffix_by : (Part → Parser Found) → Bool → ℕ → NodeId → Symbol → Parser (Option NodeId)
+suffix_by part calls at left s.Dot = take_token >> (any_name >>= λ text. add (made.Dot left text) at >>= λ id. pure (Some id))
+suffix_by part calls at left s.OpenBracket = g.node_of part parts.Index >>= λ index. add (made.Index left index) at >>= λ id. pure (Some id)
+suffix_by part true at left s.OpenParen = g.nodes_of part parts.Arguments >>= λ arguments. add (made.Call left arguments) at >>= λ id. pure (Some id)
+suffix_by part calls at left _ = pure None
+
+abbrev pub suffix_rule : Bool → Rule
+suffix_rule true = suffix
+suffix_rule false = member_suffix
+
 module _ (depth : ℕ) (h : Parted depth) where
   abbrev pub primary_built : Symbol → Tree Token → Build NodeId
   primary_built symbol tree = mk.primary_by (parts_at depth) symbol (under tree)
@@ -77,3 +89,106 @@ module _ (depth : ℕ) (h : Parted depth) where
   pub plain-sim : Sim depth (peek >>= plain_by (part_at depth)) primary_rule (mk.primary (parts_at depth))
   unfolding tables primary_rule refusal mk.primary
   plain-sim = sim-by depth (plain_by (part_at depth)) primary_built primary_rule refl (λ ns. refl) plain-at
+
+  -- ---- suffixes
+
+  abbrev pub Suffixed : Bool → ℕ → ℕ → Type 0
+  Suffixed calls at n = (ts : List Token) (ns : Nodes) (left : NodeId) → told (g.suffixes_from (part_at depth) calls at n left (ts, ns))
+      ≡ many_of language (among (firsts language.heads (suffix_rule calls))) always (guided language ahead (rule depth) (suffix_rule calls)) n ts (built (mk.suffixes (parts_at depth) at left) ns)
+
+  abbrev pub behind_suffix : Bool → ℕ → ℕ → NodeId → Nodes → Symbol → Goes Token (NodeId × Input)
+  behind_suffix calls at n left ns symbol a rest = many_of language (among (firsts language.heads (suffix_rule calls))) always (guided language ahead (rule depth) (suffix_rule calls)) n rest
+      (λ d end. let w = mk.suffix_by (parts_at depth) symbol at left a ns in built (mk.suffixes (parts_at depth) at w.0) w.1 d end)
+
+  pub suffix-at : (calls : Bool) (at n : ℕ) (t : Token) (ts : List Token) (ns : Nodes) (left : NodeId) → Suffixed calls at n
+      → (symbol : Symbol) (broken : Bool) → of_kind t.kind ≡ symbol → t.broken ≡ broken
+      → told (and_then (suffix_by (part_at depth) calls at left symbol (t ∷ ts, ns)) (g.go_on (part_at depth) (g.suffixes_from (part_at depth) calls at n) left))
+      ≡ (if among (firsts language.heads (suffix_rule calls)) (numbered symbol broken) then
+      at_kind depth (numbered symbol broken) (suffix_rule calls) (t ∷ ts) (behind_suffix calls at n left ns symbol) else Some (left, (t ∷ ts, ns)))
+  unfolding at_kind tables text next add first_token guided
+  suffix-at true at n t ts ns left ih s.Dot false e f = assoc (any_name (ts, ns)) _ _ ∙ step-any_name ts ns _ _ (λ u rest. ih rest _ _)
+  suffix-at true at n t ts ns left ih s.Dot true e f = assoc (any_name (ts, ns)) _ _ ∙ step-any_name ts ns _ _ (λ u rest. ih rest _ _)
+  suffix-at true at n t ts ns left ih s.OpenBracket false e f = assoc (g.node_of (part_at depth) parts.Index (t ∷ ts, ns)) _ _ ∙ step h.index_part (t ∷ ts) ns _ _ (λ a rest. ih rest _ _)
+  suffix-at true at n t ts ns left ih s.OpenBracket true e f = assoc (g.node_of (part_at depth) parts.Index (t ∷ ts, ns)) _ _ ∙ step h.index_part (t ∷ ts) ns _ _ (λ a rest. ih rest _ _)
+  suffix-at true at n t ts ns left ih s.OpenParen false e f = assoc (g.nodes_of (part_at depth) parts.Arguments (t ∷ ts, ns)) _ _ ∙ step h.arguments_part (t ∷ ts) ns _ _ (λ a rest. ih rest _ _)
+  suffix-at true at n t ts ns left ih s.OpenParen true e f = assoc (g.nodes_of (part_at depth) parts.Arguments (t ∷ ts, ns)) _ _ ∙ step h.arguments_part (t ∷ ts) ns _ _ (λ a rest. ih rest _ _)
+  suffix-at true at n t ts ns left ih _ false e f = refl
+  suffix-at true at n t ts ns left ih _ true e f = refl
+  suffix-at false at n t ts ns left ih s.Dot false e f = assoc (any_name (ts, ns)) _ _ ∙ step-any_name ts ns _ _ (λ u rest. ih rest _ _)
+  suffix-at false at n t ts ns left ih s.Dot true e f = assoc (any_name (ts, ns)) _ _ ∙ step-any_name ts ns _ _ (λ u rest. ih rest _ _)
+  suffix-at false at n t ts ns left ih s.OpenBracket false e f = assoc (g.node_of (part_at depth) parts.Index (t ∷ ts, ns)) _ _ ∙ step h.index_part (t ∷ ts) ns _ _ (λ a rest. ih rest _ _)
+  suffix-at false at n t ts ns left ih s.OpenBracket true e f = assoc (g.node_of (part_at depth) parts.Index (t ∷ ts, ns)) _ _ ∙ step h.index_part (t ∷ ts) ns _ _ (λ a rest. ih rest _ _)
+  suffix-at false at n t ts ns left ih _ false e f = refl
+  suffix-at false at n t ts ns left ih _ true e f = refl
+
+  pub suffixes-loop : (calls : Bool) (at n : ℕ) → Suffixed calls at n
+  unfolding g.suffixes_from g.suffix many_of mk.suffixes symbol tables
+  suffixes-loop calls at zero ts ns left = refl
+  suffixes-loop true at (suc n) [] ns left = refl
+  suffixes-loop false at (suc n) [] ns left = refl
+  suffixes-loop true at (suc n) (t ∷ ts) ns left = dispatch-or depth (suffix_rule true) refl t ts (behind_suffix true at n left ns) (Some (left, (t ∷ ts, ns)))
+      (λ symbol. told (and_then (suffix_by (part_at depth) true at left symbol (t ∷ ts, ns)) (g.go_on (part_at depth) (g.suffixes_from (part_at depth) true at n) left)))
+      (suffix-at true at n t ts ns left (suffixes-loop true at n))
+  suffixes-loop false at (suc n) (t ∷ ts) ns left = dispatch-or depth (suffix_rule false) refl t ts (behind_suffix false at n left ns) (Some (left, (t ∷ ts, ns)))
+      (λ symbol. told (and_then (suffix_by (part_at depth) false at left symbol (t ∷ ts, ns)) (g.go_on (part_at depth) (g.suffixes_from (part_at depth) false at n) left)))
+      (suffix-at false at n t ts ns left (suffixes-loop false at n))
+
+  pub suffixes-sim : (calls : Bool) (at : ℕ) (left : NodeId) → Sim depth (g.suffixes (part_at depth) calls at left) (any (suffix_rule calls)) (mk.suffixes (parts_at depth) at left)
+  unfolding g.suffixes guided
+  suffixes-sim calls at left = record { holds = λ ts ns. suffixes-loop calls at (length ts) ts ns left }
+
+  -- ---- Member and Left
+
+  abbrev pub sided_rule : Bool → Rule
+  sided_rule calls = either (both (call 13) (prefer (kinds (mark (codes "(") ∷ [])) (both (call 14) (any (suffix_rule calls))))) (both (line 27 primary_rule) (any (suffix_rule calls)))
+
+  abbrev pub sided_built : ℕ → Symbol → Tree Token → Build NodeId
+  sided_built at symbol = mk.sided_by (parts_at depth) symbol at
+
+  pub new-at : (calls : Bool) (at : ℕ) (t : Token) (ts : List Token) (ns : Nodes)
+      → told (and_then (g.node_of (part_at depth) parts.New (t ∷ ts, ns)) (g.suffixes (part_at depth) calls at))
+      ≡ guided language ahead (rule depth) (both (call 13) (prefer (kinds (mark (codes "(") ∷ [])) (both (call 14) (any (suffix_rule calls))))) (t ∷ ts) (built (sided_built at s.New) ns)
+  new-at calls at t ts ns = ?
+
+  pub sided-at : (calls : Bool) (at : ℕ) (t : Token) (ts : List Token) (ns : Nodes) (symbol : Symbol) (broken : Bool) → of_kind t.kind ≡ symbol → t.broken ≡ broken
+      → told (and_then (primary_by (part_at depth) symbol (t ∷ ts, ns)) (g.suffixes (part_at depth) calls at))
+      ≡ at_kind depth (numbered symbol broken) (sided_rule calls) (t ∷ ts) (built (sided_built at symbol) ns)
+  unfolding at_kind tables guided
+  sided-at calls at t ts ns s.New false e f = new-at calls at t ts ns
+  sided-at calls at t ts ns s.New true e f = new-at calls at t ts ns
+  sided-at calls at t ts ns _ false e f = ap (λ s. told (and_then (plain_by (part_at depth) s (t ∷ ts, ns)) (g.suffixes (part_at depth) calls at))) (sym e)
+      ∙ step-shown (plain_by (part_at depth)) plain-sim t ts ns _ _ (λ a mid. step-same (suffixes-sim calls at _) mid _ _ (λ m rest. refl))
+  sided-at calls at t ts ns _ true e f = ap (λ s. told (and_then (plain_by (part_at depth) s (t ∷ ts, ns)) (g.suffixes (part_at depth) calls at))) (sym e)
+      ∙ step-shown (plain_by (part_at depth)) plain-sim t ts ns _ _ (λ a mid. step-same (suffixes-sim calls at _) mid _ _ (λ m rest. refl))
+
+  pub sided-takes : (calls : Bool) → vacant (sided_rule calls) ≡ false
+  unfolding vacant primary_rule
+  sided-takes calls = refl
+
+  -- Primary and what follows it, at a place
+  pub sided-placed : (calls : Bool) (at : ℕ) (ts : List Token) (ns : Nodes) → told (and_then (g.primary (part_at depth) (ts, ns)) (g.suffixes (part_at depth) calls at))
+      ≡ guided language ahead (rule depth) (sided_rule calls) ts (built (λ tree. sided_built at (symbol_in tree) tree) ns)
+  unfolding g.primary symbol
+  sided-placed calls at [] ns = sym (none-at_end depth (sided_rule calls) (sided-takes calls) _)
+  sided-placed calls at (t ∷ ts) ns =
+      dispatch depth (λ symbol i. and_then (primary_by (part_at depth) symbol i) (g.suffixes (part_at depth) calls at)) (sided_built at) (sided_rule calls) (sided-takes calls) t ts ns (sided-at calls at t ts ns)
+
+  pub sided-sim : (calls : Bool) → Sim depth (λ i. and_then (g.primary (part_at depth) i) (g.suffixes (part_at depth) calls (place i))) (sided_rule calls) (mk.sided (parts_at depth))
+  unfolding place mk.sided
+  sided-sim calls = record { holds = λ ts ns. sided-placed calls (place_at ts) ts ns
+      ∙ at-first depth (λ at tree. sided_built at (symbol_in tree) tree) (sided_rule calls) (sided-takes calls) ts ns }
+
+  pub left-sim : Sim depth (g.left_side (part_at depth)) left_rule (λ tree. mk.sided (parts_at depth) (under tree))
+  unfolding g.left_side left_rule guided
+  left-sim = record { holds = λ ts ns. step-same (sided-sim true) ts ns _ (λ a rest. refl) }
+
+  -- ---- operators
+
+  abbrev pub postfixed : NodeId → ℕ → Option Node → Parser (NodeId × Bool)
+  postfixed left at None = pure (left, true)
+  postfixed left at (Some update) = take_token >> (add update at >>= λ id. pure (id, false))
+
+  -- Left and how it is followed, an operator behind it on the same line
+  abbrev pub postfix_built : Tree Token → Build (NodeId × Bool)
+  postfix_built tree ns = mk.after (mk.sided (parts_at depth) (under (first tree)) ns) (λ left ns.
+      mk.after (mk.added_if left (postfix_node (symbol_in (second tree)) left) (place_in tree) ns) (λ id ns. ((id, mk.absent (second tree)), ns)))

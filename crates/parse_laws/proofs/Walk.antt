@@ -19,7 +19,7 @@ use Rattle.js_parse.specs.declared.symbol.Symbol.TheVariants as s
 use Rattle.js_parse.specs.declared.fault.Fault.{Fault}
 use Rattle.js_parse.specs.declared.fault.Fault.TheVariants as fault
 use Rattle.js_parse.specs.Symbols.{same, of_kind, is_name, is_any_name}
-use Rattle.js_parse.specs.Input.{Input, Outcome, Parser, and_then, or_later, later, expect, sees, after, next, refusal, symbol, symbol as symbol_named, is_arrow_ahead, is_arrow_next, ◌>>=◌, peek, here, place, place_at, any_name, text_of, text, take_text, refuse, fork as fork_of}
+use Rattle.js_parse.specs.Input.{Input, Outcome, Parser, and_then, or_later, later, expect, sees, after, next, refusal, symbol, symbol as symbol_named, is_arrow_ahead, is_arrow_next, ◌>>=◌, peek, here, place, place_at, name as a_name, any_name, text_of, text, take_text, refuse, fork as fork_of}
 use Rattle.parse_laws.specs.Kinds.{token_kind, numbered}
 use Rattle.parse_laws.specs.Trees.{Build, first_token, symbol_in, symbol_of_first, place_in, place_of_first, one_of, Parts, parts_at}
 use Rattle.parse_laws.proofs.Guided.{Was, Goes, done, called, taking, many_of, guided, rule_at, some_same, guided-continues}
@@ -320,3 +320,60 @@ pub step-same : {depth : ℕ} {A : Type 0} {p : Parser A} {x : Grammar Token} {b
     → ((tree : Tree Token) (rest : List Token) → built b ns tree rest ≡ k tree rest)
     → told (p (ts, ns)) ≡ guided language ahead (rule depth) x ts k
 step-same {depth} {A} {p} {x} {b} sim ts ns k h = sim.holds ts ns ∙ goes-so depth x ts (built b ns) k (λ tree rest e. h tree rest)
+
+-- by the next token, where there may be none of it
+pub dispatch-or : {C : Type 0} (depth : ℕ) (x : Grammar Token) → vacant x ≡ false → (t : Token) (ts : List Token) (k : Symbol → Goes Token C) (m : Option C) (js : Symbol → Option C)
+    → ((symbol : Symbol) (broken : Bool) → of_kind t.kind ≡ symbol → t.broken ≡ broken
+    → js symbol ≡ (if among (firsts language.heads x) (numbered symbol broken) then at_kind depth (numbered symbol broken) x (t ∷ ts) (k symbol) else m))
+    → js (of_kind t.kind) ≡ (if starts language (among (firsts language.heads x)) (t ∷ ts) then guided language ahead (rule depth) x (t ∷ ts) (λ tree rest. k (symbol_in tree) tree rest) else m)
+unfolding token_kind
+dispatch-or {C} depth x v t ts k m js h =
+    h (of_kind t.kind) t.broken refl refl ∙ if-alike (among (firsts language.heads x) (token_kind t)) _ m _ m
+    (at-kind C depth x t ts (k (of_kind t.kind)) ∙ goes-so depth x (t ∷ ts) _ _ (λ tree rest e.
+    let f = read-front language ahead depth each-takes x v (t ∷ ts) rest tree e in
+    let same : t ≡ f.0 = let e' = f.2 in cc (e') in
+    ap (λ o. k (symbol_of_first o) tree rest) (ap (λ t. Some t) same ∙ sym f.3))) refl
+
+pub any_name-agrees : (symbol : Symbol) (broken : Bool) → is_any_name symbol ≡ among (kinds (names ++ reserved)) (numbered symbol broken)
+unfolding tables
+any_name-agrees s.Name false = refl
+any_name-agrees s.Name true = refl
+any_name-agrees _ false = refl
+any_name-agrees _ true = refl
+
+pub name-agrees : (symbol : Symbol) (broken : Bool) → is_name symbol ≡ among (kinds names) (numbered symbol broken)
+unfolding tables
+name-agrees s.Name false = refl
+name-agrees s.Name true = refl
+name-agrees _ false = refl
+name-agrees _ true = refl
+
+pub step-any_name : {A : Type 0} (ts : List Token) (ns : Nodes) (f : List ℕ → Parser A) (k : Goes Token (A × Input))
+    → ((t : Token) (rest : List Token) → told (f (text_of t.kind) (rest, ns)) ≡ k (leaf t) rest)
+    → told (and_then (any_name (ts, ns)) f) ≡ taking language (kinds (names ++ reserved)) ts k
+unfolding any_name symbol text next token_kind
+step-any_name [] ns f k h = refl
+step-any_name {A} (t ∷ ts) ns f k h = by (is_any_name (of_kind t.kind)) ∙ ap (λ b. if b then k (leaf t) ts else None) (any_name-agrees (of_kind t.kind) t.broken)
+  where
+    by : (b : Bool) → told (and_then (if b then take_text (t ∷ ts, ns) else refuse (t ∷ ts, ns)) f) ≡ (if b then k (leaf t) ts else None)
+    by true = h t ts
+    by false = refl
+
+pub step-name : {A : Type 0} (ts : List Token) (ns : Nodes) (f : List ℕ → Parser A) (k : Goes Token (A × Input))
+    → ((t : Token) (rest : List Token) → told (f (text_of t.kind) (rest, ns)) ≡ k (leaf t) rest)
+    → told (and_then (a_name (ts, ns)) f) ≡ taking language (kinds names) ts k
+unfolding a_name symbol text next token_kind
+step-name [] ns f k h = refl
+step-name {A} (t ∷ ts) ns f k h = by (is_name (of_kind t.kind)) ∙ ap (λ b. if b then k (leaf t) ts else None) (name-agrees (of_kind t.kind) t.broken)
+  where
+    by : (b : Bool) → told (and_then (if b then take_text (t ∷ ts, ns) else refuse (t ∷ ts, ns)) f) ≡ (if b then k (leaf t) ts else None)
+    by true = h t ts
+    by false = refl
+
+-- the same by the symbol of the next token
+pub step-shown : {depth : ℕ} {A B : Type 0} (js : Symbol → Parser A) {x : Grammar Token} {b : Tree Token → Build A} → Sim depth (peek >>= js) x b
+    → (t : Token) (ts : List Token) (ns : Nodes) (f : A → Parser B) (k : Goes Token (B × Input))
+    → ((tree : Tree Token) (rest : List Token) → told (f (b tree ns).0 (rest, (b tree ns).1)) ≡ k tree rest)
+    → told (and_then (js (of_kind t.kind) (t ∷ ts, ns)) f) ≡ guided language ahead (rule depth) x (t ∷ ts) k
+unfolding symbol
+step-shown js sim t ts ns f k h = step sim (t ∷ ts) ns f k h

@@ -263,13 +263,13 @@ module _ (part : Parts) where
   suffixes at left _ = pure left
 
   -- Behind `new` and its Member stand its arguments, if any.
-  abbrev pub sided_by : Symbol → Tree Token → Build NodeId
-  sided_by s.New tree = part.node_of parts.New (pair (first tree) (first (second tree))) >>= λ call. suffixes (place_in tree) call (second (second tree))
-  sided_by _ tree = primary (first tree) >>= λ call. suffixes (place_in tree) call (second tree)
+  abbrev pub sided_by : Symbol → ℕ → Tree Token → Build NodeId
+  sided_by s.New at tree = part.node_of parts.New (pair (first tree) (first (second tree))) >>= λ call. suffixes at call (second (second tree))
+  sided_by _ at tree = primary (first tree) >>= λ call. suffixes at call (second tree)
 
   -- Member, and Left
   unfoldable pub sided : Tree Token → Build NodeId
-  sided tree = sided_by (symbol_in tree) tree
+  sided tree = sided_by (symbol_in tree) (place_in tree) tree
 
   abbrev pub new_arguments : Tree Token → Build (List NodeId)
   new_arguments tree = if absent tree then pure [] else part.arguments_of tree
