@@ -9,8 +9,8 @@ use Rattle.js_tree.specs.Nodes.{Nodes}
 use Rattle.js_tree.specs.declared.node.Node.{Node}
 use Rattle.js_tree.specs.declared.node.Node.TheVariants as made
 use Rattle.js_tree.specs.declared.node.NodeId.{NodeId}
-use Rattle.js_grammar.specs.Kinds.{kinds, mark}
-use Rattle.js_grammar.specs.Script.{Rule, identifier, bind, default, right, parameter, any, always, suffix, member_suffix, punctuator, primary_rule, member_rule, left_rule, unary_rule, expr_rule, assign_rule, commas, assign}
+use Rattle.js_grammar.specs.Kinds.{kinds, unbroken_kinds, mark}
+use Rattle.js_grammar.specs.Script.{Rule, identifier, bind, default, right, parameter, any, always, optional, suffix, member_suffix, punctuator, primary_rule, member_rule, left_rule, unary_rule, expr_rule, assign_rule, commas, assign}
 use Rattle.js_parse.specs.declared.symbol.Symbol.{Symbol}
 use Rattle.js_parse.specs.declared.symbol.Symbol.TheVariants as s
 use Rattle.js_parse.specs.declared.part.Part.{Part}
@@ -26,8 +26,10 @@ use Rattle.parse_laws.specs.Trees as mk
 use Rattle.parse_laws.specs.Trees.{first_token, Parts, parts_at, place_in, symbol_in, first, second, under, Build}
 use Rattle.parse_laws.proofs.Guided.{guided, many_of, Goes}
 use Rattle.parse_laws.proofs.Sound.{vacant}
-use Rattle.parse_laws.proofs.Walk.{language, ahead, rule, told, built, Sim, step, step+, step-same, step-shown, step-expect, eat-step, eat-or, at_kind, kind-at, sim-by, dispatch, dispatch-or, step-any_name, step-name, at-first, by-first, none-at_end, assoc, tables}
+use Rattle.parse_laws.proofs.Walk.{language, ahead, rule, told, built, Sim, step, step+, step-same, step-shown, step-expect, eat-step, eat-or, at_kind, kind-at, sim-by, sim-by-at, dispatch, dispatch-or, step-any_name, step-name, at-first, by-first, none-at_end, none-behind, assoc, tables}
 use Rattle.parse_laws.proofs.Symbols
+use Rattle.parse_laws.proofs.Loops.{none-first, chain-sim}
+use Rattle.parse_laws.proofs.Levels
 use Rattle.parse_laws.proofs.Parted.{Parted}
 use Rattle.parse_laws.proofs.Bindings.{bind_name-sim}
 
@@ -55,6 +57,10 @@ primary_by part _ = refuse
 abbrev pub plain_by : (Part → Parser Found) → Symbol → Parser NodeId
 plain_by part s.New = refuse
 plain_by part symbol = primary_by part symbol
+
+pub token-takes : (kinds : List ℕ) → vacant {A = Token} (token kinds) ≡ false
+unfolding vacant
+token-takes kinds = refl
 
 abbrev pub suffix_by : (Part → Parser Found) → Bool → ℕ → NodeId → Symbol → Parser (Option NodeId)
 suffix_by part calls at left s.Dot = take_token >> (any_name >>= λ text. add (made.Dot left text) at >>= λ id. pure (Some id))
@@ -178,6 +184,10 @@ module _ (depth : ℕ) (h : Parted depth) where
   sided-sim calls = record { holds = λ ts ns. sided-placed calls (place_at ts) ts ns
       ∙ at-first depth (λ at tree. sided_built at (symbol_in tree) tree) (sided_rule calls) (sided-takes calls) ts ns }
 
+  pub left-takes : vacant left_rule ≡ false
+  unfolding left_rule primary_rule vacant
+  left-takes = refl
+
   pub left-sim : Sim depth (g.left_side (part_at depth)) left_rule (λ tree. mk.sided (parts_at depth) (under tree))
   unfolding g.left_side left_rule guided
   left-sim = record { holds = λ ts ns. step-same (sided-sim true) ts ns _ (λ a rest. refl) }
@@ -188,7 +198,85 @@ module _ (depth : ℕ) (h : Parted depth) where
   postfixed left at None = pure (left, true)
   postfixed left at (Some update) = take_token >> (add update at >>= λ id. pure (id, false))
 
-  -- Left and how it is followed, an operator behind it on the same line
-  abbrev pub postfix_built : Tree Token → Build (NodeId × Bool)
-  postfix_built tree ns = mk.after (mk.sided (parts_at depth) (under (first tree)) ns) (λ left ns.
-      mk.after (mk.added_if left (postfix_node (symbol_in (second tree)) left) (place_in tree) ns) (λ id ns. ((id, mk.absent (second tree)), ns)))
+  -- Is it a Left alone?
+  abbrev pub alone_by : Bool → Tree Token → Bool
+  alone_by true tree = false
+  alone_by false tree = mk.absent (second tree)
+
+  abbrev pub unary_built : ℕ → Symbol → Tree Token → Build (NodeId × Bool)
+  unary_built at symbol tree ns = mk.after (mk.unary_by (parts_at depth) (is_prefix symbol) at (under tree) ns) (λ id ns. ((id, alone_by (is_prefix symbol) (under tree)), ns))
+
+  abbrev pub postfix_kinds : List ℕ
+  postfix_kinds = unbroken_kinds (mark (codes "++") ∷ mark (codes "--") ∷ [])
+
+  abbrev pub behind_left : ℕ → NodeId → Nodes → Symbol → Goes Token ((NodeId × Bool) × Input)
+  behind_left at left ns symbol tree rest =
+      let w = mk.added_if left (postfix_node symbol left) at ns in Some ((w.0, mk.absent tree), (rest, w.1))
+
+  pub postfixed-at : (at : ℕ) (left : NodeId) (ns : Nodes) (t : Token) (ts : List Token) (symbol : Symbol) (broken : Bool) → of_kind t.kind ≡ symbol → t.broken ≡ broken
+      → told (postfixed left at (if t.broken then None else postfix_node symbol left) (t ∷ ts, ns))
+      ≡ (if among (firsts {A = Token} language.heads (token postfix_kinds)) (numbered symbol broken) then at_kind depth (numbered symbol broken) (token postfix_kinds) (t ∷ ts) (behind_left at left ns symbol)
+      else Some ((left, true), (t ∷ ts, ns)))
+  unfolding at_kind tables next add first_token
+  postfixed-at at left ns t ts s.Increment false e f = ap (λ b. told (postfixed left at (if b then None else postfix_node s.Increment left) (t ∷ ts, ns))) f
+  postfixed-at at left ns t ts s.Increment true e f = ap (λ b. told (postfixed left at (if b then None else postfix_node s.Increment left) (t ∷ ts, ns))) f
+  postfixed-at at left ns t ts s.Decrement false e f = ap (λ b. told (postfixed left at (if b then None else postfix_node s.Decrement left) (t ∷ ts, ns))) f
+  postfixed-at at left ns t ts s.Decrement true e f = ap (λ b. told (postfixed left at (if b then None else postfix_node s.Decrement left) (t ∷ ts, ns))) f
+  postfixed-at at left ns t ts x false e f = ap (λ b. told (postfixed left at (if b then None else postfix_node x left) (t ∷ ts, ns))) f
+  postfixed-at at left ns t ts x true e f = ap (λ b. told (postfixed left at (if b then None else postfix_node x left) (t ∷ ts, ns))) f
+
+  pub postfixed-step : (at : ℕ) (left : NodeId) (ns : Nodes) (ts : List Token)
+      → told (postfixed left at (if is_broken (ts, ns) then None else postfix_node (symbol (ts, ns)) left) (ts, ns))
+      ≡ guided language ahead (rule depth) (optional (token postfix_kinds)) ts (λ tree rest. behind_left at left ns (symbol_in tree) tree rest)
+  unfolding guided is_broken symbol first_token
+  postfixed-step at left ns [] = refl
+  postfixed-step at left ns (t ∷ ts) = dispatch-or depth (token postfix_kinds) (token-takes postfix_kinds) t ts (behind_left at left ns) (Some ((left, true), (t ∷ ts, ns)))
+      (λ symbol. told (postfixed left at (if t.broken then None else postfix_node symbol left) (t ∷ ts, ns))) (postfixed-at at left ns t ts)
+
+  pub postfix-at : (t : Token) (ts : List Token) (ns : Nodes)
+      → told (g.postfix (part_at depth) (t ∷ ts, ns)) ≡ guided language ahead (rule depth) (both (line 29 left_rule) (optional (token postfix_kinds))) (t ∷ ts)
+      (λ tree rest. let w = mk.after (mk.sided (parts_at depth) (under (first tree)) ns) (λ left. mk.added_if left (postfix_node (symbol_in (second tree)) left) t.place) in
+      Some ((w.0, mk.absent (second tree)), (rest, w.1)))
+  unfolding g.postfix guided place
+  postfix-at t ts ns = step left-sim (t ∷ ts) ns _ _ (λ a mid. postfixed-step t.place _ _ mid)
+
+  abbrev pub unary_by : Bool → Parser (NodeId × Bool)
+  unary_by before = if before then (λ id. (id, false)) <$> g.node_of (part_at depth) parts.Unary else g.postfix (part_at depth)
+
+  pub unary-at : (t : Token) (ts : List Token) (ns : Nodes) (symbol : Symbol) (broken : Bool) → of_kind t.kind ≡ symbol → t.broken ≡ broken
+      → told (unary_by (is_prefix symbol) (t ∷ ts, ns)) ≡ at_kind depth (numbered symbol broken) unary_rule (t ∷ ts) (built (unary_built t.place symbol) ns)
+  unfolding at_kind tables unary_rule guided
+  unary-at t ts ns s.Not false e f = step h.unary_part (t ∷ ts) ns _ _ (λ a rest. refl)
+  unary-at t ts ns s.Not true e f = step h.unary_part (t ∷ ts) ns _ _ (λ a rest. refl)
+  unary-at t ts ns s.BitNot false e f = step h.unary_part (t ∷ ts) ns _ _ (λ a rest. refl)
+  unary-at t ts ns s.BitNot true e f = step h.unary_part (t ∷ ts) ns _ _ (λ a rest. refl)
+  unary-at t ts ns s.Plus false e f = step h.unary_part (t ∷ ts) ns _ _ (λ a rest. refl)
+  unary-at t ts ns s.Plus true e f = step h.unary_part (t ∷ ts) ns _ _ (λ a rest. refl)
+  unary-at t ts ns s.Minus false e f = step h.unary_part (t ∷ ts) ns _ _ (λ a rest. refl)
+  unary-at t ts ns s.Minus true e f = step h.unary_part (t ∷ ts) ns _ _ (λ a rest. refl)
+  unary-at t ts ns s.Typeof false e f = step h.unary_part (t ∷ ts) ns _ _ (λ a rest. refl)
+  unary-at t ts ns s.Typeof true e f = step h.unary_part (t ∷ ts) ns _ _ (λ a rest. refl)
+  unary-at t ts ns s.Void false e f = step h.unary_part (t ∷ ts) ns _ _ (λ a rest. refl)
+  unary-at t ts ns s.Void true e f = step h.unary_part (t ∷ ts) ns _ _ (λ a rest. refl)
+  unary-at t ts ns s.Delete false e f = step h.unary_part (t ∷ ts) ns _ _ (λ a rest. refl)
+  unary-at t ts ns s.Delete true e f = step h.unary_part (t ∷ ts) ns _ _ (λ a rest. refl)
+  unary-at t ts ns s.Increment false e f = step h.unary_part (t ∷ ts) ns _ _ (λ a rest. refl)
+  unary-at t ts ns s.Increment true e f = step h.unary_part (t ∷ ts) ns _ _ (λ a rest. refl)
+  unary-at t ts ns s.Decrement false e f = step h.unary_part (t ∷ ts) ns _ _ (λ a rest. refl)
+  unary-at t ts ns s.Decrement true e f = step h.unary_part (t ∷ ts) ns _ _ (λ a rest. refl)
+  unary-at t ts ns _ false e f = postfix-at t ts ns
+  unary-at t ts ns _ true e f = postfix-at t ts ns
+
+  pub unary-takes : vacant unary_rule ≡ false
+  unfolding unary_rule left_rule primary_rule vacant
+  unary-takes = refl
+
+  pub postfix-end : (ns : Nodes) → told (g.postfix (part_at depth) ([], ns)) ≡ None
+  unfolding g.postfix
+  postfix-end ns = none-first (g.left_side (part_at depth) ([], ns)) _ (left-sim.holds [] ns ∙ none-at_end depth left_rule left-takes _)
+
+  -- an operand with an operator before or behind it, and whether it is a Left alone
+  pub unary-sim : Sim depth (g.unary (part_at depth)) unary_rule (λ tree. unary_built (place_in tree) (symbol_in tree) tree)
+  unfolding g.unary
+  unary-sim = sim-by-at depth (λ symbol. unary_by (is_prefix symbol)) unary_built unary_rule unary-takes postfix-end unary-at
+

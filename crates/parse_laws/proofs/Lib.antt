@@ -5,4 +5,6 @@ pub mod Symbols
 pub mod Parted
 pub mod Bindings
 pub mod Loops
+pub mod Levels
 pub mod Expressions
+pub mod Operators

@@ -377,3 +377,20 @@ pub step-shown : {depth : ℕ} {A B : Type 0} (js : Symbol → Parser A) {x : Gr
     → told (and_then (js (of_kind t.kind) (t ∷ ts, ns)) f) ≡ guided language ahead (rule depth) x (t ∷ ts) k
 unfolding symbol
 step-shown js sim t ts ns f k h = step sim (t ∷ ts) ns f k h
+
+-- by the symbol of the next token, with its place
+pub sim-by-at : {A : Type 0} (depth : ℕ) (js : Symbol → Parser A) (by : ℕ → Symbol → Tree Token → Build A) (x : Grammar Token) → vacant x ≡ false
+    → ((ns : Nodes) → told (js s.End ([], ns)) ≡ None)
+    → ((t : Token) (ts : List Token) (ns : Nodes) (symbol : Symbol) (broken : Bool) → of_kind t.kind ≡ symbol → t.broken ≡ broken
+    → told (js symbol (t ∷ ts, ns)) ≡ at_kind depth (numbered symbol broken) x (t ∷ ts) (built (by t.place symbol) ns))
+    → Sim depth (peek >>= js) x (λ tree. by (place_in tree) (symbol_in tree) tree)
+unfolding symbol
+sim-by-at {A} depth js by x v o h = record { holds = holds }
+  where
+    holds : (ts : List Token) (ns : Nodes) → told ((peek >>= js) (ts, ns)) ≡ guided language ahead (rule depth) x ts (built (λ tree. by (place_in tree) (symbol_in tree) tree) ns)
+    holds [] ns = o ns ∙ sym (none-at_end depth x v (built (λ tree. by (place_in tree) (symbol_in tree) tree) ns))
+    holds (t ∷ ts) ns = dispatch depth js (by t.place) x v t ts ns (h t ts ns) ∙ at-first depth (λ at tree. by at (symbol_in tree) tree) x v (t ∷ ts) ns
+
+pub none-behind : {A B : Type 0} (o : Outcome A) (f : A → Parser B) → ((a : A) (i : Input) → told (f a i) ≡ None) → told (and_then o f) ≡ None
+none-behind (Ok p) f h = h p.0 p.1
+none-behind (Err e) f h = refl

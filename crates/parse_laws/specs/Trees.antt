@@ -283,23 +283,26 @@ module _ (part : Parts) where
 
   -- ---- operators
 
-  abbrev pub unary_by : Bool → Tree Token → Build NodeId
-  unary_by true tree = part.node_of parts.Unary tree
-  unary_by false tree = sided (under (first tree)) >>= λ left. added_if left (postfix_node (symbol_in (second tree)) left) (place_in tree)
+  abbrev pub unary_by : Bool → ℕ → Tree Token → Build NodeId
+  unary_by true at tree = part.node_of parts.Unary tree
+  unary_by false at tree = sided (under (first tree)) >>= λ left. added_if left (postfix_node (symbol_in (second tree)) left) at
 
   unfoldable pub unary : Tree Token → Build NodeId
-  unary tree = unary_by (is_prefix (symbol_in tree)) (under tree)
+  unary tree = unary_by (is_prefix (symbol_in tree)) (place_in tree) (under tree)
 
   unfoldable pub prefix : Tree Token → Build NodeId
   prefix tree = unary (second tree) >>= λ operand. added_if operand (prefix_node (symbol_in tree) operand) (place_in tree)
 
-  -- operands with operators of that level and below
-  unfoldable pub operand : ℕ → Tree Token → Build NodeId
-  operand zero tree = unary tree
-  operand (suc n) tree = operand n (first (under tree)) >>= λ left. chain (operand n) (place_in tree) left (second (under tree))
+  -- operands with operators of that level and below, at a place
+  unfoldable pub operand_at : ℕ → ℕ → Tree Token → Build NodeId
+  operand_at zero at tree = unary tree
+  operand_at (suc n) at tree = operand_at n at (first (under tree)) >>= λ left. chain (λ t. operand_at n (place_in t) t) at left (second (under tree))
 
-  unfoldable pub short : Tree Token → Build NodeId
-  short tree = operand 10 (first (under tree)) >>= λ left. chain (operand 8) (place_in tree) left (second (under tree))
+  unfoldable pub operand : ℕ → Tree Token → Build NodeId
+  operand n tree = operand_at n (place_in tree) tree
+
+  unfoldable pub short_at : ℕ → Tree Token → Build NodeId
+  short_at at tree = operand_at 10 at (first (under tree)) >>= λ left. chain (operand 8) at left (second (under tree))
 
   -- "Op Assign", or "? Assign : Assign"
   abbrev pub assigned : Option (Option BinaryOperator) → ℕ → NodeId → Tree Token → Build NodeId
@@ -309,11 +312,11 @@ module _ (part : Parts) where
     else_part ← part.node_of (parts.Right true) (second (second (second tree)))
     added (made.Cond left then_part else_part) at
 
-  unfoldable pub conditional : Tree Token → Build NodeId
-  conditional tree = do
-    left ← short (first (under tree))
+  unfoldable pub conditional_at : ℕ → Tree Token → Build NodeId
+  conditional_at at tree = do
+    left ← short_at at (first (under tree))
     if absent (second (under tree)) then pure left
-        else assigned (assign_operator (symbol_in (second (under tree)))) (place_in tree) left (second (under tree))
+        else assigned (assign_operator (symbol_in (second (under tree)))) at left (second (under tree))
 
   abbrev pub arrow_by : Symbol → Tree Token → Build NodeId
   arrow_by s.OpenParen tree = do
@@ -326,7 +329,7 @@ module _ (part : Parts) where
     added (made.Arrow (function_of (one_parameter bound) body)) (place_in tree)
 
   abbrev pub assign_in : Tree Token → Build NodeId
-  assign_in (node name a) = conditional (node name a)
+  assign_in (node name a) = conditional_at (place_in (node name a)) (node name a)
   assign_in tree = arrow_by (symbol_in tree) tree
 
   unfoldable pub assign : Tree Token → Build NodeId
