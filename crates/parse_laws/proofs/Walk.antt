@@ -3,7 +3,7 @@ use Rattle.std.proofs.Common.{inl, inr, true, false, Bool, ◌⊎◌, ◌≡◌,
 use Rattle.std.proofs.lemmas.List.{append-nil}
 use Rattle.std.specs.Prelude.{if◌then◌else◌, Option, Some, None, Ok, Err}
 use Rattle.grammar.specs.Kinds.{among, kept, alike}
-use Rattle.grammar.specs.Grammar.{Tree, tip, leaf, pair, node, Grammar, empty, token, call, line, both, either, fork, many, named, prefer, starting, on, entry, Language, starts, Derives}
+use Rattle.grammar.specs.Grammar.{Tree, tip, leaf, pair, node, Grammar, empty, token, call, line, both, either, fork, many, named, prefer, starting, on, entry, Language, starts, Derives, Spells, Chain}
 use Rattle.grammar.specs.Reading.{firsts, nullable}
 use Rattle.grammar.specs.Tests.{Fits, InPlace}
 use Rattle.grammar.proofs.Sets.{is_or_not, begun-surely}
@@ -394,3 +394,18 @@ sim-by-at {A} depth js by x v o h = record { holds = holds }
 pub none-behind : {A B : Type 0} (o : Outcome A) (f : A → Parser B) → ((a : A) (i : Input) → told (f a i) ≡ None) → told (and_then o f) ≡ None
 none-behind (Ok p) f h = h p.0 p.1
 none-behind (Err e) f h = refl
+
+pub step-same+ : {depth : ℕ} {A : Type 0} {p : Parser A} {x : Grammar Token} {b : Tree Token → Build A} → Sim depth p x b → (ts : List Token) (ns : Nodes) (k : Goes Token (A × Input))
+    → ((tree : Tree Token) (rest : List Token) → guided language ahead (rule depth) x ts done ≡ Some (tree, rest) → built b ns tree rest ≡ k tree rest)
+    → told (p (ts, ns)) ≡ guided language ahead (rule depth) x ts k
+step-same+ {depth} {A} {p} {x} {b} sim ts ns k h = sim.holds ts ns ∙ goes-so depth x ts (built b ns) k h
+
+pub sees-starts : {x : Symbol} {kinds : List ℕ} → Only x kinds → (ts : List Token) (ns : Nodes) → sees x (ts, ns) ≡ starts language (among kinds) ts
+unfolding sees symbol token_kind
+sees-starts only [] ns = only.no_end
+sees-starts only (t ∷ ts) ns = only.agrees (of_kind t.kind) t.broken
+
+-- Where nothing of a list was read, nothing was taken.
+pub tip-took : (depth : ℕ) (more : Tree Token → Bool) (x : Grammar Token) (ts rest : List Token) → guided language ahead (rule depth) (many more x) ts done ≡ Some (tip, rest) → ts ≡ rest
+unfolding Spells Chain
+tip-took depth more x ts rest e = guided-finds language ahead (rule depth) (Derives language depth) (rule-finds language ahead depth) (many more x) ts (tip, rest) e
