@@ -8,3 +8,4 @@ pub mod Loops
 pub mod Levels
 pub mod Expressions
 pub mod Operators
+pub mod Rows
