@@ -3,14 +3,14 @@ use Rattle.std.proofs.Common.{true, false, Bool, ◌≡◌, ℕ, zero, suc, List
 use Rattle.std.specs.Prelude.{Option, Some, None, Ok, Err, if◌then◌else◌, is_none}
 use Rattle.grammar.specs.Kinds.{among}
 use Rattle.grammar.specs.Reading.{firsts}
-use Rattle.grammar.specs.Grammar.{Tree, tip, leaf, pair, node, Grammar, both, either, call, empty, token, many, prefer, line}
+use Rattle.grammar.specs.Grammar.{Tree, tip, leaf, pair, node, Grammar, both, either, call, empty, token, many, prefer, line, starts, entry}
 use Rattle.js_token.specs.declared.token.Token.{Token}
 use Rattle.js_tree.specs.Nodes.{Nodes}
 use Rattle.js_tree.specs.declared.node.Node.{Node}
 use Rattle.js_tree.specs.declared.node.Node.TheVariants as made
 use Rattle.js_tree.specs.declared.node.NodeId.{NodeId}
 use Rattle.js_grammar.specs.Kinds.{kinds, unbroken_kinds, mark}
-use Rattle.js_grammar.specs.Script.{Rule, identifier, bind, default, right, parameter, any, always, optional, suffix, member_suffix, punctuator, primary_rule, member_rule, left_rule, unary_rule, expr_rule, assign_rule, commas, assign}
+use Rattle.js_grammar.specs.Script.{Rule, heads, identifier, bind, default, right, parameter, any, always, optional, suffix, member_suffix, punctuator, primary_rule, member_rule, left_rule, unary_rule, expr_rule, assign_rule, commas, assign}
 use Rattle.js_parse.specs.declared.symbol.Symbol.{Symbol}
 use Rattle.js_parse.specs.declared.symbol.Symbol.TheVariants as s
 use Rattle.js_parse.specs.declared.part.Part.{Part}
@@ -24,9 +24,9 @@ use Rattle.js_parse.specs.Nesting.{part_at}
 use Rattle.parse_laws.specs.Kinds.{numbered, token_kind}
 use Rattle.parse_laws.specs.Trees as mk
 use Rattle.parse_laws.specs.Trees.{first_token, Parts, parts_at, place_in, symbol_in, first, second, under, Build}
-use Rattle.parse_laws.proofs.Guided.{guided, many_of, Goes}
+use Rattle.parse_laws.proofs.Guided.{guided, many_of, Goes, Was, called, done}
 use Rattle.parse_laws.proofs.Sound.{vacant}
-use Rattle.parse_laws.proofs.Walk.{language, ahead, rule, told, built, Sim, step, step+, step-same, step-shown, step-expect, eat-step, eat-or, at_kind, kind-at, sim-by, sim-by-at, dispatch, dispatch-or, step-any_name, step-name, at-first, by-first, none-at_end, none-behind, assoc, tables}
+use Rattle.parse_laws.proofs.Walk.{language, ahead, rule, told, built, Sim, step, step+, step-same, step-shown, goes-so, starts-neither, behind-new, open_kinds, step-expect, eat-step, eat-or, at_kind, kind-at, sim-by, sim-by-at, dispatch, dispatch-or, step-any_name, step-name, at-first, by-first, none-at_end, none-behind, assoc, tables}
 use Rattle.parse_laws.proofs.Symbols
 use Rattle.parse_laws.proofs.Loops.{none-first, chain-sim}
 use Rattle.parse_laws.proofs.Levels
@@ -151,10 +151,47 @@ module _ (depth : ℕ) (h : Parted depth) where
   abbrev pub sided_built : ℕ → Symbol → Tree Token → Build NodeId
   sided_built at symbol = mk.sided_by (parts_at depth) symbol at
 
+  pub suffix-off : (mid : List Token) → starts language (among (firsts language.heads member_suffix)) mid ≡ false → starts language (among open_kinds) mid ≡ false
+      → starts language (among (firsts language.heads (suffix_rule true))) mid ≡ false
+  unfolding firsts entry heads
+  suffix-off mid o p = starts-neither open_kinds (firsts language.heads member_suffix) mid p o
+
+  pub called-is : (w : Was Token) {q : Tree Token × List Token} → called w done ≡ Some q → w ≡ Some q
+  called-is None e = absurd (cc (e))
+  called-is (Some p) e = e
+
+  pub no-suffix : (calls : Bool) (n : ℕ) (mid : List Token) (k : Goes Token (NodeId × Input)) → starts language (among (firsts language.heads member_suffix)) mid ≡ false
+      → starts language (among open_kinds) mid ≡ false
+      → many_of language (among (firsts language.heads (suffix_rule calls))) always (guided language ahead (rule depth) (suffix_rule calls)) n mid k ≡ k tip mid
+  unfolding many_of
+  no-suffix calls zero mid k o p = refl
+  no-suffix true (suc n) mid k o p = let off = suffix-off mid o p in rw off refl
+  no-suffix false (suc n) mid k o p = rw o refl
+
+  -- where nothing follows
+  pub new-alone : (calls : Bool) (at : ℕ) (a : Tree Token) (mid : List Token) (ns : Nodes) → starts language (among (firsts language.heads member_suffix)) mid ≡ false
+      → starts language (among open_kinds) mid ≡ false
+      → (let w = (parts_at depth).node_of parts.New (pair a tip) ns in told (g.suffixes (part_at depth) calls at w.0 (mid, w.1))) ≡ built (sided_built at s.New) ns (pair a tip) mid
+  unfolding mk.suffixes guided
+  new-alone calls at a mid ns o p =
+      (suffixes-sim calls at _).holds mid _ ∙ no-suffix calls (length mid) mid _ o p
+
   pub new-at : (calls : Bool) (at : ℕ) (t : Token) (ts : List Token) (ns : Nodes)
       → told (and_then (g.node_of (part_at depth) parts.New (t ∷ ts, ns)) (g.suffixes (part_at depth) calls at))
       ≡ guided language ahead (rule depth) (both (call 13) (prefer (kinds (mark (codes "(") ∷ [])) (both (call 14) (any (suffix_rule calls))))) (t ∷ ts) (built (sided_built at s.New) ns)
-  new-at calls at t ts ns = ?
+  unfolding guided
+  new-at calls at t ts ns =
+      step h.new_part (t ∷ ts) ns (g.suffixes (part_at depth) calls at)
+      (λ tree rest. let w = (parts_at depth).node_of parts.New tree ns in told (g.suffixes (part_at depth) calls at w.0 (rest, w.1))) (λ tree rest. refl)
+      ∙ goes-so depth (call 13) (t ∷ ts) _ _ (λ a mid e. by a mid (starts language (among open_kinds) mid) refl e)
+    where
+      by : (a : Tree Token) (mid : List Token) (b : Bool) → starts language (among open_kinds) mid ≡ b → guided language ahead (rule depth) (call 13) (t ∷ ts) done ≡ Some (a, mid)
+          → (if b then guided language ahead (rule depth) (call 14) mid (λ c rest. let w = (parts_at depth).node_of parts.New (pair a c) ns in told (g.suffixes (part_at depth) calls at w.0 (rest, w.1)))
+          else (let w = (parts_at depth).node_of parts.New (pair a tip) ns in told (g.suffixes (part_at depth) calls at w.0 (mid, w.1))))
+          ≡ (if b then guided language ahead (rule depth) (call 14) mid (λ c rest. guided language ahead (rule depth) (any (suffix_rule calls)) rest (λ m end. built (sided_built at s.New) ns (pair a (pair c m)) end))
+          else built (sided_built at s.New) ns (pair a tip) mid)
+      by a mid true o e = goes-so depth (call 14) mid _ _ (λ c rest e. step-same (suffixes-sim calls at _) rest _ _ (λ m end. refl))
+      by a mid false o e = new-alone calls at a mid ns (behind-new depth (t ∷ ts) mid a (called-is (rule depth 13 (t ∷ ts)) e) o) o
 
   pub sided-at : (calls : Bool) (at : ℕ) (t : Token) (ts : List Token) (ns : Nodes) (symbol : Symbol) (broken : Bool) → of_kind t.kind ≡ symbol → t.broken ≡ broken
       → told (and_then (primary_by (part_at depth) symbol (t ∷ ts, ns)) (g.suffixes (part_at depth) calls at))

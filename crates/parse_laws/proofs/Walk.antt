@@ -1,17 +1,17 @@
 -- Steps by which what the parser reads is compared with what is read by the grammar.
-use Rattle.std.proofs.Common.{inl, inr, true, false, Bool, ◌⊎◌, ◌≡◌, ℕ, zero, suc, ◌+◌, ◌<◌, ◌≤◌, List, [], ◌∷◌, ◌++◌, length, refl, ap, sym, subst, ◌∙◌, arith}
+use Rattle.std.proofs.Common.{inl, inr, true, false, Bool, ◌⊎◌, ◌≡◌, ℕ, zero, suc, ◌+◌, ◌<◌, ◌≤◌, List, [], ◌∷◌, ◌++◌, length, refl, ap, sym, subst, ◌∙◌, arith, codes}
 use Rattle.std.proofs.lemmas.List.{append-nil}
-use Rattle.std.specs.Prelude.{if◌then◌else◌, Option, Some, None, Ok, Err}
+use Rattle.std.specs.Prelude.{if◌then◌else◌, ◌==◌, Option, Some, None, Ok, Err}
 use Rattle.grammar.specs.Kinds.{among, kept, alike}
 use Rattle.grammar.specs.Grammar.{Tree, tip, leaf, pair, node, Grammar, empty, token, call, line, both, either, fork, many, named, prefer, starting, on, entry, Language, starts, Derives, Spells, Chain}
 use Rattle.grammar.specs.Reading.{firsts, nullable}
 use Rattle.grammar.specs.Tests.{Fits, InPlace}
-use Rattle.grammar.proofs.Sets.{is_or_not, begun-surely}
+use Rattle.grammar.proofs.Sets.{is_or_not, begun-surely, test_was}
 use Rattle.grammar.proofs.Complete.{derives-begun, spells-begun}
 use Rattle.js_token.specs.declared.token.Token.{Token}
 use Rattle.js_tree.specs.Nodes.{Nodes}
-use Rattle.js_grammar.specs.Kinds.{kinds, unbroken_kinds, names, reserved, place_in as kind_place, marks, words, contextual}
-use Rattle.js_grammar.specs.Script.{rules, heads, script_language, pattern_rule, primary_rule, member_rule, left_rule, unary_rule, mul_rule, add_rule, shift_rule, rel_rule, equal_rule, bit_and_rule, bit_xor_rule, bit_or_rule, and_rule, or_rule, short_rule, cond_rule, assign_rule, expr_rule, arrow_rule, prefixed_rule, new_rule, group_rule, index_rule, computed_rule, array_rule, arguments_rule, template_rule, object_rule, function_rule, declared_rule, parameters_rule, no_parameters_rule, one_parameter_rule, stmt_rule, item_rule, block_rule, for_rule, script_rule}
+use Rattle.js_grammar.specs.Kinds.{kinds, unbroken_kinds, names, reserved, place_in as kind_place, mark, word, marks, words, contextual}
+use Rattle.js_grammar.specs.Script.{rules, heads, any, member_suffix, script_language, pattern_rule, primary_rule, member_rule, left_rule, unary_rule, mul_rule, add_rule, shift_rule, rel_rule, equal_rule, bit_and_rule, bit_xor_rule, bit_or_rule, and_rule, or_rule, short_rule, cond_rule, assign_rule, expr_rule, arrow_rule, prefixed_rule, new_rule, group_rule, index_rule, computed_rule, array_rule, arguments_rule, template_rule, object_rule, function_rule, declared_rule, parameters_rule, no_parameters_rule, one_parameter_rule, stmt_rule, item_rule, block_rule, for_rule, script_rule}
 use Rattle.js_grammar.proofs.Tables.{tails}
 use Rattle.js_grammar.proofs.Passes.{script-fits}
 use Rattle.js_parse.specs.declared.symbol.Symbol.{Symbol}
@@ -22,7 +22,7 @@ use Rattle.js_parse.specs.Symbols.{same, of_kind, is_name, is_any_name}
 use Rattle.js_parse.specs.Input.{Input, Outcome, Parser, and_then, or_later, later, expect, sees, after, next, refusal, symbol, symbol as symbol_named, is_arrow_ahead, is_arrow_next, ◌>>=◌, peek, here, place, place_at, name as a_name, any_name, text_of, text, take_text, refuse, fork as fork_of}
 use Rattle.parse_laws.specs.Kinds.{token_kind, numbered}
 use Rattle.parse_laws.specs.Trees.{Build, first_token, symbol_in, symbol_of_first, place_in, place_of_first, one_of, Parts, parts_at}
-use Rattle.parse_laws.proofs.Guided.{Was, Goes, done, called, taking, many_of, guided, rule_at, some_same, guided-continues}
+use Rattle.parse_laws.proofs.Guided.{Was, Goes, done, called, taking, many_of, guided, rule_at, some_same, called_some, was, many-continues, guided-continues}
 use Rattle.parse_laws.proofs.Sound.{vacant, guided-finds, rule-finds, read-front, read-shorter}
 
 -- the grammar of scripts over tokens of those kinds
@@ -409,3 +409,79 @@ sees-starts only (t ∷ ts) ns = only.agrees (of_kind t.kind) t.broken
 pub tip-took : (depth : ℕ) (more : Tree Token → Bool) (x : Grammar Token) (ts rest : List Token) → guided language ahead (rule depth) (many more x) ts done ≡ Some (tip, rest) → ts ≡ rest
 unfolding Spells Chain
 tip-took depth more x ts rest e = guided-finds language ahead (rule depth) (Derives language depth) (rule-finds language ahead depth) (many more x) ts (tip, rest) e
+
+pub among-neither : (xs ys : List ℕ) (t : ℕ) → among xs t ≡ false → among ys t ≡ false → among (xs ++ ys) t ≡ false
+unfolding among
+among-neither [] ys t e f = f
+among-neither (x ∷ xs) ys t e f = elim (test_was (x == t) true (among xs t) false e) [
+  | inl h ↦ absurd (cc (h.1))
+  | inr h ↦ rw (h.0) (among-neither xs ys t h.1 f)
+]
+
+pub starts-neither : (xs ys : List ℕ) (ts : List Token) → starts language (among xs) ts ≡ false → starts language (among ys) ts ≡ false → starts language (among (xs ++ ys)) ts ≡ false
+starts-neither xs ys [] e f = refl
+starts-neither xs ys (t ∷ ts) e f = among-neither xs ys (token_kind t) e f
+
+-- Behind a list no further one comes.
+pub many-off : (depth : ℕ) (test : ℕ → Bool) (x : Grammar Token) → vacant x ≡ false → (n : ℕ) (ts rest : List Token) (c : Tree Token) → length ts ≤ n
+    → many_of language test (λ tree. true) (guided language ahead (rule depth) x) n ts done ≡ Some (c, rest) → starts language test rest ≡ false
+unfolding many_of
+many-off depth test x v zero [] rest c few e = ap (λ q. starts language test q.1) (sym (some_same _ _ e))
+many-off depth test x v zero (t ∷ ts) rest c few e = absurd (omega (arith, few))
+many-off depth test x v (suc n) ts rest c few e = elim (was (starts language test ts) _ _ (c, rest) e) [
+  | inl h ↦
+      let g = guided language ahead (rule depth) x in
+      let con = guided-continues language ahead (rule depth) (Tree Token × List Token) x in
+      let k = called_some (g ts done) _ (c, rest) (sym (con ts _) ∙ h.1) in
+      let f = called_some (many_of language test (λ tree. true) g n (k.0).1 done) _ (c, rest) (sym (many-continues language (Tree Token × List Token) test (λ tree. true) g g con con n (k.0).1 _) ∙ k.2) in
+      let front = read-front language ahead depth each-takes x v ts (k.0).1 (k.0).0 k.1 in
+      let size : length ts ≡ suc (length (front.1)) = ap (λ l. length l) (front.2) in
+      let short = front.4 in
+      let same = some_same _ _ f.2 in
+      ap (λ q. starts language test q.1) (sym same) ∙ many-off depth test x v n (k.0).1 (f.0).1 (f.0).0 (omega (arith, few, size, short)) f.1
+  | inr h ↦ ap (λ q. starts language test q.1) (sym (some_same _ _ h.1)) ∙ h.0
+]
+
+pub any-off : (depth : ℕ) (x : Grammar Token) → vacant x ≡ false → (ts : List Token) (f : Tree Token → Tree Token) (q : Tree Token × List Token)
+    → guided language ahead (rule depth) (many (λ tree. true) x) ts (λ c end. Some (f c, end)) ≡ Some q → starts language (among (firsts language.heads x)) q.1 ≡ false
+unfolding guided
+any-off depth x v ts f q e =
+    let k = called_some (guided language ahead (rule depth) (many (λ tree. true) x) ts done) _ q (sym (guided-continues language ahead (rule depth) (Tree Token × List Token) (many (λ tree. true) x) ts _) ∙ e) in
+    ap (λ q. starts language (among (firsts language.heads x)) q.1) (sym (some_same _ _ k.2)) ∙ many-off depth (among (firsts language.heads x)) x v (length ts) ts (k.0).1 (k.0).0 (omega arith) k.1
+
+-- Behind `new` and its Member no further part of it comes, but arguments.
+abbrev pub open_kinds : List ℕ
+open_kinds = kinds (mark (codes "(") ∷ [])
+
+pub member-off : (depth : ℕ) → ((ts rest : List Token) (a : Tree Token) → rule depth 13 ts ≡ Some (a, rest) → starts language (among open_kinds) rest ≡ false
+    → starts language (among (firsts language.heads member_suffix)) rest ≡ false)
+    → (ts : List Token) (q : Tree Token × List Token) → guided language ahead (rule depth) member_rule ts done ≡ Some q → starts language (among open_kinds) q.1 ≡ false
+    → starts language (among (firsts language.heads member_suffix)) q.1 ≡ false
+unfolding guided member_rule vacant
+member-off depth ih ts q e o = elim (was (starts language (among (firsts language.heads (both (call 13) (prefer open_kinds (both (call 14) (any member_suffix)))))) ts) _ _ q e) [
+  | inl h ↦
+      let k = called_some (rule depth 13 ts) _ q h.1 in
+      elim (was (starts language (among open_kinds) (k.0).1) _ _ q k.2) [
+        | inl m ↦ let f = called_some (rule depth 14 (k.0).1) _ q m.1 in any-off depth member_suffix refl (f.0).1 (λ c. pair (k.0).0 (pair (f.0).0 c)) q f.2
+        | inr m ↦
+            let same = some_same _ _ m.1 in
+            ap (λ q. starts language (among (firsts language.heads member_suffix)) q.1) (sym same) ∙ ih ts (k.0).1 (k.0).0 k.1 m.0
+      ]
+  | inr h ↦
+      let k = called_some (guided language ahead (rule depth) primary_rule ts done) _ q (sym (guided-continues language ahead (rule depth) (Tree Token × List Token) primary_rule ts _) ∙ h.1) in
+      any-off depth member_suffix refl (k.0).1 (λ c. pair (k.0).0 c) q k.2
+]
+
+pub behind-new : (depth : ℕ) (ts rest : List Token) (a : Tree Token) → rule depth 13 ts ≡ Some (a, rest) → starts language (among open_kinds) rest ≡ false
+    → starts language (among (firsts language.heads member_suffix)) rest ≡ false
+unfolding rule_at guided rules entry new_rule
+behind-new zero ts rest a e o = absurd (cc (e))
+behind-new (suc depth) [] rest a e o = absurd (cc (e))
+behind-new (suc depth) (t ∷ ts) rest a e o = elim (was (among (kinds (word (codes "new") ∷ [])) (token_kind t)) _ _ (a, rest) e) [
+  | inl h ↦
+      let k = called_some (guided language ahead (rule depth) member_rule ts done) _ (a, rest) (sym (guided-continues language ahead (rule depth) (Tree Token × List Token) member_rule ts _) ∙ h.1) in
+      let same = some_same _ _ k.2 in
+      let off : starts language (among open_kinds) (k.0).1 ≡ false = ap (λ q. starts language (among open_kinds) q.1) same ∙ o in
+      ap (λ q. starts language (among (firsts language.heads member_suffix)) q.1) (sym same) ∙ member-off depth (behind-new depth) ts k.0 k.1 off
+  | inr h ↦ absurd (cc (h.1))
+]
