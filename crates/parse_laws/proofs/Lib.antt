@@ -8,4 +8,5 @@ pub mod Loops
 pub mod Levels
 pub mod Expressions
 pub mod Operators
+pub mod Behind
 pub mod Rows
