@@ -62,6 +62,14 @@ pub token-takes : (kinds : List ℕ) → vacant {A = Token} (token kinds) ≡ fa
 unfolding vacant
 token-takes kinds = refl
 
+-- Is it a Left alone?
+abbrev pub alone_by : Bool → Tree Token → Bool
+alone_by true tree = false
+alone_by false tree = mk.absent (second tree)
+
+abbrev pub postfix_kinds_of : List ℕ
+postfix_kinds_of = unbroken_kinds (mark (codes "++") ∷ mark (codes "--") ∷ [])
+
 abbrev pub suffix_by : (Part → Parser Found) → Bool → ℕ → NodeId → Symbol → Parser (Option NodeId)
 suffix_by part calls at left s.Dot = take_token >> (any_name >>= λ text. add (made.Dot left text) at >>= λ id. pure (Some id))
 suffix_by part calls at left s.OpenBracket = g.node_of part parts.Index >>= λ index. add (made.Index left index) at >>= λ id. pure (Some id)
@@ -234,11 +242,6 @@ module _ (depth : ℕ) (h : Parted depth) where
   abbrev pub postfixed : NodeId → ℕ → Option Node → Parser (NodeId × Bool)
   postfixed left at None = pure (left, true)
   postfixed left at (Some update) = take_token >> (add update at >>= λ id. pure (id, false))
-
-  -- Is it a Left alone?
-  abbrev pub alone_by : Bool → Tree Token → Bool
-  alone_by true tree = false
-  alone_by false tree = mk.absent (second tree)
 
   abbrev pub unary_built : ℕ → Symbol → Tree Token → Build (NodeId × Bool)
   unary_built at symbol tree ns = mk.after (mk.unary_by (parts_at depth) (is_prefix symbol) at (under tree) ns) (λ id ns. ((id, alone_by (is_prefix symbol) (under tree)), ns))

@@ -9,4 +9,5 @@ pub mod Levels
 pub mod Expressions
 pub mod Operators
 pub mod Behind
+pub mod Assigning
 pub mod Rows

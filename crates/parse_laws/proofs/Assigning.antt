@@ -1,0 +1,148 @@
+-- Assignments and expressions.
+use Rattle.std.proofs.Common.{inl, inr, true, false, Bool, ◌⊎◌, ◌≡◌, ℕ, zero, suc, List, [], ◌∷◌, ◌++◌, length, refl, ap, sym, subst, ◌∙◌, codes}
+use Rattle.std.specs.Prelude.{Option, Some, None, Ok, Err, if◌then◌else◌, is_none, is_some}
+use Rattle.grammar.specs.Kinds.{among, apart}
+use Rattle.grammar.specs.Reading.{firsts, nullable}
+use Rattle.grammar.specs.Grammar.{Tree, tip, leaf, pair, node, Grammar, both, either, call, empty, token, many, named, on, prefer, line, starts, entry, Derives, Spells}
+use Rattle.js_token.specs.declared.token.Token.{Token}
+use Rattle.js_tree.specs.Nodes.{Nodes}
+use Rattle.js_tree.specs.declared.node.NodeId.{NodeId}
+use Rattle.js_tree.specs.declared.node.Node.TheVariants as made
+use Rattle.js_tree.specs.declared.node.BinaryOperator.{BinaryOperator}
+use Rattle.js_grammar.specs.Kinds.{kinds, mark}
+use Rattle.js_grammar.specs.Script.{Rule, rules, heads, any, always, optional, reaches, form, unary_rule, mul_rule, add_rule, shift_rule, rel_rule, equal_rule, bit_and_rule, bit_xor_rule, bit_or_rule, and_rule, or_rule, short_rule, cond_rule, left_rule, primary_rule, prefixed_rule, assign_operators, right, branches, prefix_operators}
+use Rattle.js_parse.specs.declared.symbol.Symbol.{Symbol}
+use Rattle.js_parse.specs.declared.symbol.Symbol.TheVariants as s
+use Rattle.js_parse.specs.declared.part.Part.TheVariants as parts
+use Rattle.js_parse.specs.Symbols.{of_kind}
+use Rattle.js_parse.specs.Operators.{is_prefix, assign_operator, assign_node}
+use Rattle.js_parse.specs.Input.{Parser, Outcome, Input, and_then, symbol, place, place_at, next, add, pure, expect, sees, after, ◌>>=◌, ◌>>◌}
+use Rattle.js_parse.specs.Grammar as g
+use Rattle.js_parse.specs.Nesting.{part_at}
+use Rattle.parse_laws.specs.Kinds.{numbered, token_kind}
+use Rattle.parse_laws.specs.Trees as mk
+use Rattle.parse_laws.specs.Trees.{Parts, parts_at, place_in, symbol_in, symbol_of_first, first_token, first, second, under, Build}
+use Rattle.parse_laws.proofs.Guided.{guided, many_of, Goes, Was, done, called, called_some, some_same, guided-continues, was, rule_at}
+use Rattle.parse_laws.proofs.Sound.{vacant, guided-finds, rule-finds, read-front}
+use Rattle.parse_laws.proofs.Walk.{language, ahead, rule, told, built, Sim, step, step+, step-at, step-same, step-expect, eat-step, starts-neither, if-alike, goes-so, at-first, each-takes, tables}
+use Rattle.parse_laws.proofs.Symbols.{only-question, only-colon}
+use Rattle.parse_laws.proofs.Parted.{Parted}
+use Rattle.parse_laws.proofs.Expressions
+use Rattle.parse_laws.proofs.Operators
+use Rattle.parse_laws.proofs.Behind
+use Rattle.parse_laws.proofs.Behind.{left_node, assign_kinds}
+
+pub prefix-agrees : (symbol : Symbol) (broken : Bool) → is_prefix symbol ≡ among (kinds prefix_operators) (numbered symbol broken)
+unfolding tables
+prefix-agrees s.Not false = refl
+prefix-agrees s.Not true = refl
+prefix-agrees _ false = refl
+prefix-agrees _ true = refl
+
+pub assign-agrees : (symbol : Symbol) (broken : Bool) → is_some (assign_operator symbol) ≡ among assign_kinds (numbered symbol broken)
+unfolding tables
+assign-agrees s.Assign false = refl
+assign-agrees s.Assign true = refl
+assign-agrees _ false = refl
+assign-agrees _ true = refl
+
+module _ (depth : ℕ) where
+  abbrev pub Trees : Type 0
+  Trees = Tree Token × List Token
+
+  pub named-is : (name : ℕ) (x : Rule) (ts rest : List Token) (a : Tree Token) → guided language ahead (rule depth) (named name x) ts done ≡ Some (a, rest)
+      → (c : Tree Token) × (guided language ahead (rule depth) x ts done ≡ Some (c, rest)) × (a ≡ node name c)
+  unfolding guided
+  named-is name x ts rest a e =
+      let k = called_some (guided language ahead (rule depth) x ts done) (λ a rest. done (node name a) rest) (a, rest) (sym (guided-continues language ahead (rule depth) Trees x ts (λ a rest. done (node name a) rest)) ∙ e) in
+      let same = some_same _ _ k.2 in
+      ((k.0).0, k.1 ∙ ap (λ (r : List Token). Some ((k.0).0, r)) (ap (λ q. q.1) same), sym (ap (λ q. q.0) same))
+
+  pub unary-node : (ts rest : List Token) (a : Tree Token) → guided language ahead (rule depth) unary_rule ts done ≡ Some (a, rest) → (c : Tree Token)
+      × (guided language ahead (rule depth) (either (call 12) (both (line 29 left_rule) (optional (token Expressions.postfix_kinds_of)))) ts done ≡ Some (c, rest)) × (a ≡ node 30 c)
+  unfolding unary_rule
+  unary-node ts rest a e = named-is 30 _ ts rest a e
+
+  pub left-node : (ts rest : List Token) (a : Tree Token) → guided language ahead (rule depth) left_rule ts done ≡ Some (a, rest) → (c : Tree Token) × (a ≡ node 29 c)
+  unfolding left_rule
+  left-node ts rest a e = let k = named-is 29 _ ts rest a e in (k.0, k.2)
+
+  pub alone-left : (l p : Tree Token) (c : Tree Token) → l ≡ node 29 c → ((p ≡ tip) ⊎ ((t : Token) × (p ≡ leaf t))) → reaches left_node (node 30 (pair l p)) ≡ mk.absent p
+  unfolding reaches among first_token
+  alone-left l p c e f = elim f [
+    | inl h ↦ subst (λ p. reaches left_node (node 30 (pair l p)) ≡ mk.absent p) (sym h) (ap (λ l. reaches left_node (node 30 (pair l tip))) e)
+    | inr h ↦ subst (λ p. reaches left_node (node 30 (pair l p)) ≡ mk.absent p) (sym h.1) refl
+  ]
+
+  pub left-solid : vacant left_rule ≡ false
+  unfolding left_rule primary_rule vacant
+  left-solid = refl
+
+  -- behind a Left: nothing, or an operator
+  pub postfix-shape : (ts : List Token) (f : Tree Token → Tree Token) (q : Trees) → guided language ahead (rule depth) (optional (token Expressions.postfix_kinds_of)) ts (λ p rest. done (f p) rest) ≡ Some q
+      → (p : Tree Token) × (q.0 ≡ f p) × ((p ≡ tip) ⊎ ((t : Token) × (p ≡ leaf t)))
+  unfolding guided
+  postfix-shape [] f q e = (tip, ap (λ q. q.0) (sym (some_same _ _ e)), inl refl)
+  postfix-shape (t ∷ ts) f q e = elim (was (among (firsts {A = Token} language.heads (token Expressions.postfix_kinds_of)) (token_kind t))
+      (if among Expressions.postfix_kinds_of (token_kind t) then Some (f (leaf t), ts) else None) (Some (f tip, t ∷ ts)) q e) [
+        | inl h ↦ elim (was (among Expressions.postfix_kinds_of (token_kind t)) (Some (f (leaf t), ts)) None q h.1) [
+          | inl k ↦ (leaf t, ap (λ q. q.0) (sym (some_same _ _ k.1)), inr (t, refl))
+          | inr k ↦ absurd (cc (k.1))
+        ]
+        | inr h ↦ (tip, ap (λ q. q.0) (sym (some_same _ _ h.1)), inl refl)
+      ]
+
+  pub prefix-reaches : (ts rest : List Token) (c : Tree Token) → rule depth 12 ts ≡ Some (c, rest) → reaches left_node (node 30 c) ≡ false
+  unfolding Derives Spells rules entry prefixed_rule unary_rule reaches among
+  prefix-reaches ts rest c e = by depth (rule-finds language ahead depth 12 ts (c, rest) e)
+    where
+      by : (d : ℕ) → Derives language d 12 ts rest c → reaches left_node (node 30 c) ≡ false
+      by zero x = absurd x
+      by (suc d) x =
+          let u = x.4 in
+          subst (λ c. reaches left_node (node 30 c) ≡ false) (sym (x.5)) (subst (λ b. reaches left_node (node 30 (pair x.1 b)) ≡ false) (sym (u.2)) refl)
+
+  pub starts-prefix : (t : Token) (ts : List Token) → starts language (among (firsts {A = Token} language.heads (call 12))) (t ∷ ts) ≡ is_prefix (of_kind t.kind)
+  unfolding token_kind firsts entry heads
+  starts-prefix t ts = sym (prefix-agrees (of_kind t.kind) t.broken)
+
+  pub unary-cases : (ts rest : List Token) (c : Tree Token) → guided language ahead (rule depth) (either (call 12) (both (line 29 left_rule) (optional (token Expressions.postfix_kinds_of)))) ts done ≡ Some (c, rest)
+      → ((is_prefix (symbol_in c) ≡ true) × (reaches left_node (node 30 c) ≡ false)) ⊎ ((is_prefix (symbol_in c) ≡ false) × (reaches left_node (node 30 c) ≡ Expressions.alone_by false c))
+  unfolding guided first_token vacant
+  unary-cases ts rest c e = elim (was (starts language (among (firsts {A = Token} language.heads (call 12))) ts) (called (rule depth 12 ts) done)
+      (guided language ahead (rule depth) left_rule ts (λ l mid. guided language ahead (rule depth) (optional (token Expressions.postfix_kinds_of)) mid (λ p rest. done (pair l p) rest))) (c, rest) e) [
+        | inl h ↦
+            let f = read-front language ahead depth each-takes (call 12) refl ts rest c h.1 in
+            let k = called_some (rule depth 12 ts) done (c, rest) h.1 in
+            inl (
+              ap (λ o. is_prefix (symbol_of_first o)) f.3 ∙ sym (starts-prefix f.0 f.1) ∙ ap (λ ts. starts language (among (firsts {A = Token} language.heads (call 12))) ts) (sym f.2) ∙ h.0,
+              prefix-reaches ts rest c (k.1 ∙ k.2),
+            )
+        | inr h ↦
+            let k = called_some (guided language ahead (rule depth) left_rule ts done) (λ l mid. guided language ahead (rule depth) (optional (token Expressions.postfix_kinds_of)) mid (λ p rest. done (pair l p) rest))
+                (c, rest) (sym (guided-continues language ahead (rule depth) Trees left_rule ts _) ∙ h.1) in
+            let f = read-front language ahead depth each-takes left_rule left-solid ts (k.0).1 (k.0).0 k.1 in
+            let p = postfix-shape (k.0).1 (λ p. pair (k.0).0 p) (c, rest) k.2 in
+            let n = left-node ts (k.0).1 (k.0).0 k.1 in
+            let front : first_token (pair (k.0).0 p.0) ≡ Some f.0 = ap (λ o. mk.one_of o (first_token p.0)) f.3 in
+            inr (
+              ap (λ c. is_prefix (symbol_in c)) p.1 ∙ ap (λ o. is_prefix (symbol_of_first o)) front ∙ sym (starts-prefix f.0 f.1)
+              ∙ ap (λ ts. starts language (among (firsts {A = Token} language.heads (call 12))) ts) (sym f.2) ∙ h.0,
+              ap (λ c. reaches left_node (node 30 c)) p.1 ∙ alone-left (k.0).0 p.0 n.0 n.1 p.2 ∙ ap (λ c. Expressions.alone_by false c) (sym p.1),
+            )
+      ]
+
+  -- an operand is a Left alone as its tree says
+  pub unary-alone : (ts rest : List Token) (a : Tree Token) → guided language ahead (rule depth) unary_rule ts done ≡ Some (a, rest)
+      → reaches left_node a ≡ Expressions.alone_by (is_prefix (symbol_in a)) (under a)
+  unfolding first_token
+  unary-alone ts rest a e =
+      let k = unary-node ts rest a e in
+      subst (λ a. reaches left_node a ≡ Expressions.alone_by (is_prefix (symbol_in a)) (under a)) (sym k.2) (by ts k.0 k.1)
+    where
+      by : (ts : List Token) (c : Tree Token) → guided language ahead (rule depth) (either (call 12) (both (line 29 left_rule) (optional (token Expressions.postfix_kinds_of)))) ts done ≡ Some (c, rest)
+          → reaches left_node (node 30 c) ≡ Expressions.alone_by (is_prefix (symbol_of_first (first_token c))) c
+      by ts c e = elim (unary-cases ts rest c e) [
+        | inl h ↦ h.1 ∙ sym (ap (λ b. Expressions.alone_by b c) h.0)
+        | inr h ↦ h.1 ∙ sym (ap (λ b. Expressions.alone_by b c) h.0)
+      ]
