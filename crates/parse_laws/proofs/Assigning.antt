@@ -1,9 +1,11 @@
 -- Assignments and expressions.
 use Rattle.std.proofs.Common.{inl, inr, true, false, Bool, ◌⊎◌, ◌≡◌, ℕ, zero, suc, List, [], ◌∷◌, ◌++◌, length, refl, ap, sym, subst, ◌∙◌, codes}
-use Rattle.std.specs.Prelude.{Option, Some, None, Ok, Err, if◌then◌else◌, is_none, is_some}
+use Rattle.std.specs.Prelude.{Option, Some, None, Ok, Err, if◌then◌else◌, ◌==◌, is_none, is_some}
 use Rattle.grammar.specs.Kinds.{among, apart}
 use Rattle.grammar.specs.Reading.{firsts, nullable}
 use Rattle.grammar.specs.Grammar.{Tree, tip, leaf, pair, node, Grammar, both, either, call, empty, token, many, named, on, prefer, line, starts, entry, Derives, Spells}
+use Rattle.std.proofs.lemmas.List.{append-nil}
+use Rattle.grammar.proofs.Sets.{test_was}
 use Rattle.js_token.specs.declared.token.Token.{Token}
 use Rattle.js_tree.specs.Nodes.{Nodes}
 use Rattle.js_tree.specs.declared.node.NodeId.{NodeId}
@@ -24,8 +26,8 @@ use Rattle.parse_laws.specs.Trees as mk
 use Rattle.parse_laws.specs.Trees.{Parts, parts_at, place_in, symbol_in, symbol_of_first, first_token, first, second, under, Build}
 use Rattle.parse_laws.proofs.Guided.{guided, many_of, Goes, Was, done, called, called_some, some_same, guided-continues, was, rule_at}
 use Rattle.parse_laws.proofs.Sound.{vacant, guided-finds, rule-finds, read-front}
-use Rattle.parse_laws.proofs.Walk.{language, ahead, rule, told, built, Sim, step, step+, step-at, step-same, step-expect, eat-step, starts-neither, if-alike, goes-so, at-first, each-takes, tables}
-use Rattle.parse_laws.proofs.Symbols.{only-question, only-colon}
+use Rattle.parse_laws.proofs.Walk.{language, ahead, rule, told, built, Sim, step, step+, step-at, step-same, step-expect, eat-step, eat-step+, starts-neither, if-alike, goes-so, at-first, each-takes, tables}
+use Rattle.parse_laws.proofs.Symbols.{only-question, only-colon, is-question}
 use Rattle.parse_laws.proofs.Parted.{Parted}
 use Rattle.parse_laws.proofs.Expressions
 use Rattle.parse_laws.proofs.Operators
@@ -146,3 +148,73 @@ module _ (depth : ℕ) where
         | inl h ↦ h.1 ∙ sym (ap (λ b. Expressions.alone_by b c) h.0)
         | inr h ↦ h.1 ∙ sym (ap (λ b. Expressions.alone_by b c) h.0)
       ]
+
+pub among-skips : (xs ys : List ℕ) (t : ℕ) → among xs t ≡ false → among (xs ++ ys) t ≡ among ys t
+unfolding among
+among-skips [] ys t e = refl
+among-skips (x ∷ xs) ys t e = elim (test_was (x == t) true (among xs t) false e) [
+  | inl h ↦ absurd (cc (h.1))
+  | inr h ↦ rw (h.0) (among-skips xs ys t h.1)
+]
+
+pub either-same : {A : Type 0} (b both_ first_ : Bool) (x y z : A) → both_ ≡ b → first_ ≡ false → (if b then y else z) ≡ (if both_ then (if first_ then x else y) else z)
+either-same true true false x y z e f = refl
+either-same false false false x y z e f = refl
+either-same true false first_ x y z e f = absurd (cc (e))
+either-same false true first_ x y z e f = absurd (cc (e))
+either-same b both_ true x y z e f = absurd (cc (f))
+
+module _ (depth : ℕ) (h : Parted depth) (allow_in : Bool) where
+  abbrev pub assigned_x : Rule
+  assigned_x = both (token assign_kinds) (right allow_in)
+
+  abbrev pub branches_x : Rule
+  branches_x = branches allow_in
+
+  abbrev pub cond_end : ℕ → Nodes → Goes Token (NodeId × Input)
+  cond_end at ns sh r = if reaches left_node sh
+      then guided language ahead (rule depth) (optional (either assigned_x branches_x)) r (λ b e. built (mk.conditional_at (parts_at depth) at) ns (node (form allow_in 42) (pair sh b)) e)
+      else guided language ahead (rule depth) (optional branches_x) r (λ b e. built (mk.conditional_at (parts_at depth) at) ns (node (form allow_in 42) (pair sh b)) e)
+
+  abbrev pub asked : ℕ → NodeId → Bool → Parser NodeId
+  asked at test given = if given then (g.node_of (part_at depth) (parts.Right allow_in) >>= λ then_part. expect s.Colon >> (g.node_of (part_at depth) (parts.Right allow_in) >>= λ else_part.
+      add (made.Cond test then_part else_part) at)) else pure test
+
+  pub conditional-step : (at : ℕ) (ns : Nodes) (sh : Tree Token) (r : List Token)
+      → told (let w = mk.short_at (parts_at depth) at sh ns in g.conditional (part_at depth) allow_in at w.0 (r, w.1))
+      ≡ guided language ahead (rule depth) (optional branches_x) r (λ b e. built (mk.conditional_at (parts_at depth) at) ns (node (form allow_in 42) (pair sh b)) e)
+  unfolding g.conditional guided mk.conditional_at first_token add
+  conditional-step at ns sh r =
+      let w = mk.short_at (parts_at depth) at sh ns in
+      eat-step+ depth only-question r w.1 (asked at w.0) (both (right allow_in) (both (token (kinds (mark (codes ":") ∷ []))) (right allow_in))) empty
+      (λ b e. built (mk.conditional_at (parts_at depth) at) ns (node (form allow_in 42) (pair sh b)) e)
+      (λ t rest m. question t rest (is-question (of_kind t.kind) m)) refl
+    where
+      question : (t : Token) (rest : List Token) → of_kind t.kind ≡ s.Question → told (let w = mk.short_at (parts_at depth) at sh ns in asked at w.0 true (rest, w.1))
+          ≡ guided language ahead (rule depth) (both (right allow_in) (both (token (kinds (mark (codes ":") ∷ []))) (right allow_in))) rest
+          (λ b e. built (mk.conditional_at (parts_at depth) at) ns (node (form allow_in 42) (pair sh (pair (leaf t) b))) e)
+      question t rest e = step (h.right_part allow_in) rest _ _ _ (λ a m. step-expect only-colon m _ _ _ (λ u n. step (h.right_part allow_in) n _ _ _ (λ b o.
+          ap (λ q. let w = mk.assigned (parts_at depth) (assign_operator q) at (mk.short_at (parts_at depth) at sh ns).0 (pair (leaf t) (pair a (pair (leaf u) b))) (mk.short_at (parts_at depth) at sh ns).1 in
+          Some (w.0, (o, w.1))) (sym e))))
+
+  -- Where no operator of an assignment comes, the branches alone may.
+  pub either-skips : (r : List Token) (k : Goes Token (NodeId × Input)) → starts language (among assign_kinds) r ≡ false
+      → guided language ahead (rule depth) (optional branches_x) r k ≡ guided language ahead (rule depth) (optional (either assigned_x branches_x)) r k
+  unfolding guided firsts nullable
+  either-skips [] k e = refl
+  either-skips (t ∷ r) k e =
+      let one : among (assign_kinds ++ []) (token_kind t) ≡ false = ap (λ f. among f (token_kind t)) (append-nil assign_kinds) ∙ e in
+      let two = among-skips (assign_kinds ++ []) (firsts language.heads branches_x) (token_kind t) one in
+      either-same _ _ _ _ (guided language ahead (rule depth) branches_x (t ∷ r) k) (k tip (t ∷ r)) two one
+
+  pub cond-chosen : (at : ℕ) (ns : Nodes) (sh : Tree Token) (r : List Token) → (reaches left_node sh ≡ true → starts language (among assign_kinds) r ≡ false)
+      → told (let w = mk.short_at (parts_at depth) at sh ns in g.conditional (part_at depth) allow_in at w.0 (r, w.1)) ≡ cond_end at ns sh r
+  cond-chosen at ns sh r o = conditional-step at ns sh r ∙ by (reaches left_node sh) refl
+    where
+      k : Goes Token (NodeId × Input)
+      k b e = built (mk.conditional_at (parts_at depth) at) ns (node (form allow_in 42) (pair sh b)) e
+
+      by : (b : Bool) → reaches left_node sh ≡ b → guided language ahead (rule depth) (optional branches_x) r k
+          ≡ (if b then guided language ahead (rule depth) (optional (either assigned_x branches_x)) r k else guided language ahead (rule depth) (optional branches_x) r k)
+      by true e = either-skips r k (o e)
+      by false e = refl

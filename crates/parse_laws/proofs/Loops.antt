@@ -164,7 +164,7 @@ module _ (depth : ℕ) {A : Type 0} {item : Parser A} {x : Grammar Token} {b : T
       eat-or depth only-comma ts ns (member_behind (suc m) found) (optional x)
       (λ a rest. if has_member a then rest_of n rest (λ d end. closed (mk.members_behind b found) ns (pair a d) end) else closed (mk.members_behind b found) ns (pair a tip) rest)
       (closed (mk.members_behind b found) ns tip ts)
-      (λ t rest e. let size : length ts ≡ suc (length rest) = ap (λ l. length l) e in
+      (λ t rest e w. let size : length ts ≡ suc (length rest) = ap (λ l. length l) e in
           listed-next n m (members-loop n m) (leaf t) rest ns found (omega (arith, few, size)) (omega (arith, less, size)))
       (no-member (suc m) ts ns found)
 
@@ -219,7 +219,7 @@ module _ (depth : ℕ) {A : Type 0} {item : Parser A} {x : Grammar Token} {b : T
       ap (λ o. told o) (more n found ts ns) ∙ eat-or depth only-comma ts ns (more_members (loop n) found) x
       (λ a rest. many_of language (among (firsts language.heads (both (token comma_first) x))) always (guided language ahead (rule depth) (both (token comma_first) x)) n rest
       (λ d end. built (mk.all_behind (λ m. b (second m)) found) ns (pair a d) end)) (built (mk.all_behind (λ m. b (second m)) found) ns tip ts)
-      (λ t rest e. step sim rest ns _ _ (λ o mid. commas-loop loop none more n mid _ _)) refl
+      (λ t rest e m. step sim rest ns _ _ (λ o mid. commas-loop loop none more n mid _ _)) refl
 
   abbrev pub more_items : {B : Type 0} → (List A → Parser (List A)) → (List A → Parser B) → List A → Bool → Parser B
   more_items loop f found ended = if ended then f found else (λ i. and_then (item i) (λ x i. and_then (loop (found ++ x ∷ []) i) f))

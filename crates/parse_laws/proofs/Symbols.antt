@@ -268,3 +268,33 @@ pub only-template_head : Only s.TemplateHead (kinds (template_head ∷ []))
 unfolding same
 only-template_head = record { agrees = template_head-agrees; no_end = refl }
 
+
+pub is-question : (symbol : Symbol) → same symbol s.Question ≡ true → symbol ≡ s.Question
+unfolding same
+is-question s.Question e = refl
+is-question _ e = absurd (cc (e))
+
+pub is-colon : (symbol : Symbol) → same symbol s.Colon ≡ true → symbol ≡ s.Colon
+unfolding same
+is-colon s.Colon e = refl
+is-colon _ e = absurd (cc (e))
+
+pub is-of : (symbol : Symbol) → same symbol s.Of ≡ true → symbol ≡ s.Of
+unfolding same
+is-of s.Of e = refl
+is-of _ e = absurd (cc (e))
+
+pub is-open_brace : (symbol : Symbol) → same symbol s.OpenBrace ≡ true → symbol ≡ s.OpenBrace
+unfolding same
+is-open_brace s.OpenBrace e = refl
+is-open_brace _ e = absurd (cc (e))
+
+pub is-ellipsis : (symbol : Symbol) → same symbol s.Ellipsis ≡ true → symbol ≡ s.Ellipsis
+unfolding same
+is-ellipsis s.Ellipsis e = refl
+is-ellipsis _ e = absurd (cc (e))
+
+pub is-catch : (symbol : Symbol) → same symbol s.Catch ≡ true → symbol ≡ s.Catch
+unfolding same
+is-catch s.Catch e = refl
+is-catch _ e = absurd (cc (e))

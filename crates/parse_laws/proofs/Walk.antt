@@ -115,7 +115,7 @@ step-expect {B} {x} {kinds} only (t ∷ ts) ns f k h =
 
 pub eat-or : {A : Type 0} {x : Symbol} {kinds : List ℕ} (depth : ℕ) → Only x kinds → (ts : List Token) (ns : Nodes) (g : Bool → Input → Outcome A) (y : Grammar Token)
     (k : Goes Token (A × Input)) (m : Option (A × Input))
-    → ((t : Token) (rest : List Token) → ts ≡ t ∷ rest → told (g true (rest, ns)) ≡ guided language ahead (rule depth) y rest (λ b end. k (pair (leaf t) b) end))
+    → ((t : Token) (rest : List Token) → ts ≡ t ∷ rest → same (of_kind t.kind) x ≡ true → told (g true (rest, ns)) ≡ guided language ahead (rule depth) y rest (λ b end. k (pair (leaf t) b) end))
     → told (g false (ts, ns)) ≡ m
     → told (g (sees x (ts, ns)) (after x (ts, ns)))
     ≡ (if starts language (among (firsts language.heads (both (token kinds) y))) ts then guided language ahead (rule depth) (both (token kinds) y) ts k else m)
@@ -124,14 +124,14 @@ eat-or {A} {x} {kinds} depth only [] ns g y k m h o =
     ap (λ b. told (g b (if b then ([], ns) else ([], ns)))) only.no_end ∙ o
 eat-or {A} {x} {kinds} depth only (t ∷ ts) ns g y k m h o =
     ap (λ b. told (g b (if b then (ts, ns) else (t ∷ ts, ns)))) (only.agrees (of_kind t.kind) t.broken)
-    ∙ by (among kinds (token_kind t))
+    ∙ by (among kinds (token_kind t)) refl
     ∙ ap (λ f. if among f (token_kind t) then (if among kinds (token_kind t) then guided language ahead (rule depth) y ts (λ b end. k (pair (leaf t) b) end) else None)
         else m) (sym (append-nil kinds))
   where
-    by : (b : Bool) → told (g b (if b then (ts, ns) else (t ∷ ts, ns)))
+    by : (b : Bool) → among kinds (token_kind t) ≡ b → told (g b (if b then (ts, ns) else (t ∷ ts, ns)))
         ≡ (if b then (if b then guided language ahead (rule depth) y ts (λ b end. k (pair (leaf t) b) end) else None) else m)
-    by true = h t ts refl
-    by false = o
+    by true e = h t ts refl (only.agrees (of_kind t.kind) t.broken ∙ e)
+    by false e = o
 
 pub eat-step : {A : Type 0} {x : Symbol} {kinds : List ℕ} (depth : ℕ) → Only x kinds → (ts : List Token) (ns : Nodes) (g : Bool → Input → Outcome A) (y z : Grammar Token)
     (k : Goes Token (A × Input))
@@ -139,7 +139,16 @@ pub eat-step : {A : Type 0} {x : Symbol} {kinds : List ℕ} (depth : ℕ) → On
     → told (g false (ts, ns)) ≡ guided language ahead (rule depth) z ts k
     → told (g (sees x (ts, ns)) (after x (ts, ns))) ≡ guided language ahead (rule depth) (either (both (token kinds) y) z) ts k
 unfolding guided
-eat-step depth only ts ns g y z k h o = eat-or depth only ts ns g y k (guided language ahead (rule depth) z ts k) (λ t rest e. h t rest) o
+eat-step depth only ts ns g y z k h o = eat-or depth only ts ns g y k (guided language ahead (rule depth) z ts k) (λ t rest e m. h t rest) o
+
+-- the same, where that token is told
+pub eat-step+ : {A : Type 0} {x : Symbol} {kinds : List ℕ} (depth : ℕ) → Only x kinds → (ts : List Token) (ns : Nodes) (g : Bool → Input → Outcome A) (y z : Grammar Token)
+    (k : Goes Token (A × Input))
+    → ((t : Token) (rest : List Token) → same (of_kind t.kind) x ≡ true → told (g true (rest, ns)) ≡ guided language ahead (rule depth) y rest (λ b end. k (pair (leaf t) b) end))
+    → told (g false (ts, ns)) ≡ guided language ahead (rule depth) z ts k
+    → told (g (sees x (ts, ns)) (after x (ts, ns))) ≡ guided language ahead (rule depth) (either (both (token kinds) y) z) ts k
+unfolding guided
+eat-step+ depth only ts ns g y z k h o = eat-or depth only ts ns g y k (guided language ahead (rule depth) z ts k) (λ t rest e m. h t rest m) o
 
 -- ---- the first token of a tree
 
