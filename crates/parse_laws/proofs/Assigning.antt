@@ -5,7 +5,7 @@ use Rattle.grammar.specs.Kinds.{among, apart}
 use Rattle.grammar.specs.Reading.{firsts, nullable}
 use Rattle.grammar.specs.Grammar.{Tree, tip, leaf, pair, node, Grammar, both, either, call, empty, token, many, named, on, prefer, line, starts, entry, Derives, Spells}
 use Rattle.std.proofs.lemmas.List.{append-nil}
-use Rattle.grammar.proofs.Sets.{test_was}
+use Rattle.grammar.proofs.Sets.{test_was, among-left}
 use Rattle.js_token.specs.declared.token.Token.{Token}
 use Rattle.js_tree.specs.Nodes.{Nodes}
 use Rattle.js_tree.specs.declared.node.NodeId.{NodeId}
@@ -26,7 +26,7 @@ use Rattle.parse_laws.specs.Trees as mk
 use Rattle.parse_laws.specs.Trees.{Parts, parts_at, place_in, symbol_in, symbol_of_first, first_token, first, second, under, Build}
 use Rattle.parse_laws.proofs.Guided.{guided, many_of, Goes, Was, done, called, called_some, some_same, guided-continues, was, rule_at}
 use Rattle.parse_laws.proofs.Sound.{vacant, guided-finds, rule-finds, read-front}
-use Rattle.parse_laws.proofs.Walk.{language, ahead, rule, told, built, Sim, step, step+, step-at, step-same, step-expect, eat-step, eat-step+, starts-neither, if-alike, goes-so, at-first, each-takes, tables}
+use Rattle.parse_laws.proofs.Walk.{on-true, language, ahead, rule, told, built, Sim, step, step+, step-at, step-same, step-expect, eat-step, eat-step+, starts-neither, if-alike, goes-so, at-first, each-takes, tables}
 use Rattle.parse_laws.proofs.Symbols.{only-question, only-colon, is-question}
 use Rattle.parse_laws.proofs.Parted.{Parted}
 use Rattle.parse_laws.proofs.Expressions
@@ -157,6 +157,12 @@ among-skips (x ∷ xs) ys t e = elim (test_was (x == t) true (among xs t) false 
   | inr h ↦ rw (h.0) (among-skips xs ys t h.1)
 ]
 
+pub thrice : {A : Type 0} (a b c : Bool) (x y z w : A) → a ≡ true → b ≡ true → c ≡ true → x ≡ (if a then (if b then (if c then x else y) else z) else w)
+thrice true true true x y z w e f g = refl
+thrice false b c x y z w e f g = absurd (cc (e))
+thrice true false c x y z w e f g = absurd (cc (f))
+thrice true true false x y z w e f g = absurd (cc (g))
+
 pub either-same : {A : Type 0} (b both_ first_ : Bool) (x y z : A) → both_ ≡ b → first_ ≡ false → (if b then y else z) ≡ (if both_ then (if first_ then x else y) else z)
 either-same true true false x y z e f = refl
 either-same false false false x y z e f = refl
@@ -218,3 +224,75 @@ module _ (depth : ℕ) (h : Parted depth) (allow_in : Bool) where
           ≡ (if b then guided language ahead (rule depth) (optional (either assigned_x branches_x)) r k else guided language ahead (rule depth) (optional branches_x) r k)
       by true e = either-skips r k (o e)
       by false e = refl
+
+  abbrev pub assign_in : List Token → Option (Option BinaryOperator)
+  assign_in ts = assign_operator (symbol (ts, []))
+
+  pub assign-starts : (ts : List Token) → is_some (assign_in ts) ≡ starts language (among assign_kinds) ts
+  unfolding symbol token_kind
+  assign-starts [] = refl
+  assign-starts (t ∷ ts) = assign-agrees (of_kind t.kind) t.broken
+
+  pub begun : (at : ℕ) (ns : Nodes) (a : Tree Token) (t : Token) (m : List Token) → starts language (among assign_kinds) (t ∷ m) ≡ true
+      → guided language ahead (rule depth) (right allow_in) m (λ v rest. built (mk.conditional_at (parts_at depth) at) ns (node (form allow_in 42) (pair (Behind.short_tower depth h allow_in a) (pair (leaf t) v))) rest)
+      ≡ guided language ahead (rule depth) (optional (either assigned_x branches_x)) (t ∷ m) (λ b e. built (mk.conditional_at (parts_at depth) at) ns (node (form allow_in 42) (pair (Behind.short_tower depth h allow_in a) b)) e)
+  unfolding guided firsts nullable
+  begun at ns a t m begins =
+      let one : among (assign_kinds ++ []) (token_kind t) ≡ true = ap (λ f. among f (token_kind t)) (append-nil assign_kinds) ∙ begins in
+      let two = among-left (assign_kinds ++ []) (firsts language.heads branches_x) (token_kind t) one in
+      thrice _ _ _ _ None (guided language ahead (rule depth) branches_x (t ∷ m) k) (k tip (t ∷ m)) two one begins
+    where
+      k : Goes Token (NodeId × Input)
+      k b e = built (mk.conditional_at (parts_at depth) at) ns (node (form allow_in 42) (pair (Behind.short_tower depth h allow_in a) b)) e
+
+  pub reached-first : (at : ℕ) (ns : Nodes) (a : Tree Token) (m : List Token) → reaches left_node a ≡ true
+      → guided language ahead (rule depth) (optional (either assigned_x branches_x)) m (λ b e. built (mk.conditional_at (parts_at depth) at) ns (node (form allow_in 42) (pair (Behind.short_tower depth h allow_in a) b)) e)
+      ≡ cond_end at ns (Behind.short_tower depth h allow_in a) m
+  reached-first at ns a m q =
+      on-true (guided language ahead (rule depth) (optional branches_x) m (λ b e. built (mk.conditional_at (parts_at depth) at) ns (node (form allow_in 42) (pair (Behind.short_tower depth h allow_in a) b)) e))
+      (Behind.short-reaches depth h allow_in a ∙ q) refl
+
+  -- "Op Assign" behind a Left
+  pub assigned-step : (at : ℕ) (ns : Nodes) (a : Tree Token) (m : List Token) (o : Option BinaryOperator) → assign_in m ≡ Some o → reaches left_node a ≡ true
+      → told (let w = mk.unary (parts_at depth) a ns in g.behind_operand (part_at depth) allow_in at w.0 (Some o) (m, w.1)) ≡ Behind.rest-short depth h allow_in (NodeId × Input) a m (cond_end at ns)
+  unfolding g.behind_operand symbol next mk.conditional_at first_token add guided
+  assigned-step at ns a [] o e q = absurd (cc (e))
+  assigned-step at ns a (t ∷ m) o e q =
+      let begins : starts language (among assign_kinds) (t ∷ m) ≡ true = sym (assign-starts (t ∷ m)) ∙ ap (λ o. is_some o) e in
+      step (h.right_part allow_in) m _ _ _ (λ v rest.
+          ap (λ w. let u = mk.after w (λ left. mk.assigned (parts_at depth) (Some o) at left (pair (leaf t) v)) in Some (u.0, (rest, u.1))) (sym (Behind.short-built depth h allow_in at a ns))
+          ∙ ap (λ p. let u = mk.after (mk.short_at (parts_at depth) at (Behind.short_tower depth h allow_in a) ns) (λ left. mk.assigned (parts_at depth) p at left (pair (leaf t) v)) in Some (u.0, (rest, u.1))) (sym e))
+      ∙ begun at ns a t m begins ∙ reached-first at ns a (t ∷ m) q ∙ sym (Behind.short-stops depth h allow_in (NodeId × Input) a (t ∷ m) (cond_end at ns) begins)
+
+  pub no-assign : (at : ℕ) (ns : Nodes) (a : Tree Token) (m : List Token) → (reaches left_node a ≡ true → starts language (among assign_kinds) m ≡ false)
+      → told (let w = mk.unary (parts_at depth) a ns in g.behind_operand (part_at depth) allow_in at w.0 None (m, w.1)) ≡ Behind.rest-short depth h allow_in (NodeId × Input) a m (cond_end at ns)
+  unfolding g.behind_operand
+  no-assign at ns a m o =
+      step-at _ (Behind.rest-short depth h allow_in (Tree Token × List Token) a m done) (mk.short_at (parts_at depth) at) ns _ (cond_end at ns)
+      (Behind.short-reads depth h allow_in at a ns m ∙ Behind.short-continues depth h allow_in (NodeId × Input) a m _)
+      (λ sh r e. cond-chosen at ns sh r (λ q. let k = Behind.short-alone depth h allow_in a sh m r e q in ap (λ ts. starts language (among assign_kinds) ts) k.0 ∙ o k.1))
+      ∙ sym (Behind.short-continues depth h allow_in (NodeId × Input) a m (cond_end at ns))
+
+  -- what follows an operand
+  pub operand-behind : (at : ℕ) (ns : Nodes) (a : Tree Token) (m : List Token) (b : Bool) → reaches left_node a ≡ b
+      → told (let w = mk.unary (parts_at depth) a ns in g.behind_operand (part_at depth) allow_in at w.0 (if b then assign_in m else None) (m, w.1))
+      ≡ Behind.rest-short depth h allow_in (NodeId × Input) a m (cond_end at ns)
+  operand-behind at ns a m b q = by b (if b then assign_in m else None) q refl
+    where
+      by : (b : Bool) (o : Option (Option BinaryOperator)) → reaches left_node a ≡ b → (if b then assign_in m else None) ≡ o
+          → told (let w = mk.unary (parts_at depth) a ns in g.behind_operand (part_at depth) allow_in at w.0 (if b then assign_in m else None) (m, w.1))
+          ≡ Behind.rest-short depth h allow_in (NodeId × Input) a m (cond_end at ns)
+      by true (Some o) q e =
+          ap (λ o. told (let w = mk.unary (parts_at depth) a ns in g.behind_operand (part_at depth) allow_in at w.0 o (m, w.1))) e ∙ assigned-step at ns a m o e q
+      by true None q e =
+          ap (λ o. told (let w = mk.unary (parts_at depth) a ns in g.behind_operand (part_at depth) allow_in at w.0 o (m, w.1))) e ∙ no-assign at ns a m (λ _. sym (assign-starts m) ∙ ap (λ o. is_some o) e)
+      by false o q e = no-assign at ns a m (λ r. absurd (cc (q, r)))
+
+  -- an expression that begins with an operand
+  abbrev pub operand_first : ℕ → Parser NodeId
+  operand_first at i = and_then (g.unary (part_at depth) i) (λ u i. g.behind_operand (part_at depth) allow_in at u.0 (if u.1 then assign_operator (symbol i) else None) i)
+
+  pub operand_first-sim : (at : ℕ) → Sim depth (operand_first at) (cond_rule allow_in) (mk.conditional_at (parts_at depth) at)
+  unfolding cond_rule short_rule or_rule and_rule bit_or_rule bit_xor_rule bit_and_rule equal_rule rel_rule shift_rule add_rule mul_rule guided mk.unary symbol
+  operand_first-sim at = record { holds = λ ts ns. step+ (Expressions.unary-sim depth h) ts ns _
+    (λ a m. Behind.rest-short depth h allow_in (NodeId × Input) a m (cond_end at ns)) (λ a m e. operand-behind at ns a m (Expressions.alone_by (is_prefix (symbol_in a)) (under a)) (unary-alone depth ts m a e)) }
