@@ -10,4 +10,5 @@ pub mod Expressions
 pub mod Operators
 pub mod Behind
 pub mod Assigning
+pub mod Arrows
 pub mod Rows

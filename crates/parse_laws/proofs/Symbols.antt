@@ -298,3 +298,18 @@ pub is-catch : (symbol : Symbol) → same symbol s.Catch ≡ true → symbol ≡
 unfolding same
 is-catch s.Catch e = refl
 is-catch _ e = absurd (cc (e))
+
+pub is-open_paren : (symbol : Symbol) → same symbol s.OpenParen ≡ true → symbol ≡ s.OpenParen
+unfolding same
+is-open_paren s.OpenParen e = refl
+is-open_paren _ e = absurd (cc (e))
+
+pub is-open_bracket : (symbol : Symbol) → same symbol s.OpenBracket ≡ true → symbol ≡ s.OpenBracket
+unfolding same
+is-open_bracket s.OpenBracket e = refl
+is-open_bracket _ e = absurd (cc (e))
+
+pub is-new : (symbol : Symbol) → same symbol s.New ≡ true → symbol ≡ s.New
+unfolding same
+is-new s.New e = refl
+is-new _ e = absurd (cc (e))

@@ -494,3 +494,12 @@ behind-new (suc depth) (t ∷ ts) rest a e o = elim (was (among (kinds (word (co
       ap (λ q. starts language (among (firsts language.heads member_suffix)) q.1) (sym same) ∙ member-off depth (behind-new depth) ts k.0 k.1 off
   | inr h ↦ absurd (cc (h.1))
 ]
+
+-- the first token of a pair
+pub pair-front : (depth : ℕ) (x : Grammar Token) → vacant x ≡ false → (t : Token) (ts rest : List Token) (a b : Tree Token)
+    → guided language ahead (rule depth) x (t ∷ ts) done ≡ Some (a, rest) → (symbol_in (pair a b) ≡ of_kind t.kind) × (place_in (pair a b) ≡ t.place)
+unfolding first_token
+pair-front depth x v t ts rest a b e =
+    let f = read-front language ahead depth each-takes x v (t ∷ ts) rest a e in
+    let same : f.0 ≡ t = let e' = f.2 in cc (e') in
+    (ap (λ o. symbol_of_first (one_of o (first_token b))) f.3 ∙ ap (λ t. of_kind t.kind) same, ap (λ o. place_of_first (one_of o (first_token b))) f.3 ∙ ap (λ t. t.place) same)
