@@ -87,8 +87,8 @@ module _ (depth : ℕ) (h : Parted depth) where
   pub plain-at : (t : Token) (ts : List Token) (ns : Nodes) (symbol : Symbol) (broken : Bool) → of_kind t.kind ≡ symbol → t.broken ≡ broken
       → told (plain_by (part_at depth) symbol (t ∷ ts, ns)) ≡ at_kind depth (numbered symbol broken) primary_rule (t ∷ ts) (built (primary_built symbol) ns)
   unfolding at_kind tables primary_rule text number place next add refusal first_token leaf_of g.named_leaf g.number_leaf g.text_leaf g.template_leaf
-  plain-at t ts ns s.TemplateHead false e f = step-same h.template_part (t ∷ ts) ns _ (λ a rest. refl)
-  plain-at t ts ns s.TemplateHead true e f = step-same h.template_part (t ∷ ts) ns _ (λ a rest. refl)
+  plain-at t ts ns s.TemplateHead false e f = h.template_part t ts ns e ∙ goes-so depth (call 11) (t ∷ ts) _ _ (λ a rest w. refl)
+  plain-at t ts ns s.TemplateHead true e f = h.template_part t ts ns e ∙ goes-so depth (call 11) (t ∷ ts) _ _ (λ a rest w. refl)
   plain-at t ts ns s.OpenBracket false e f = step-same h.array_part (t ∷ ts) ns _ (λ a rest. refl)
   plain-at t ts ns s.OpenBracket true e f = step-same h.array_part (t ∷ ts) ns _ (λ a rest. refl)
   plain-at t ts ns s.OpenBrace false e f = step-same h.object_part (t ∷ ts) ns _ (λ a rest. refl)

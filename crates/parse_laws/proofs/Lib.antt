@@ -11,4 +11,6 @@ pub mod Operators
 pub mod Behind
 pub mod Assigning
 pub mod Arrows
+pub mod Bracketed
+pub mod Patterns
 pub mod Rows

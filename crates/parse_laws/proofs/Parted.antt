@@ -1,15 +1,20 @@
 -- What is supposed of the parts of a depth.
-use Rattle.std.proofs.Common.{true, Bool, ℕ, ◌∷◌, [], codes}
+use Rattle.std.proofs.Common.{true, Bool, ◌≡◌, ℕ, List, ◌∷◌, [], codes}
 use Rattle.grammar.specs.Grammar.{call, both, prefer}
 use Rattle.js_grammar.specs.Kinds.{kinds, mark}
 use Rattle.js_grammar.specs.Script.{Rule, right, arrow_tail}
 use Rattle.js_parse.specs.declared.part.Part.{Part}
 use Rattle.js_parse.specs.declared.part.Part.TheVariants as parts
+use Rattle.js_token.specs.declared.token.Token.{Token}
+use Rattle.js_tree.specs.Nodes.{Nodes}
+use Rattle.js_parse.specs.declared.symbol.Symbol.TheVariants as s
+use Rattle.js_parse.specs.Symbols.{of_kind}
 use Rattle.js_parse.specs.Grammar as g
 use Rattle.js_parse.specs.Nesting.{part_at}
 use Rattle.js_tree.specs.declared.node.NodeId.{NodeId}
 use Rattle.parse_laws.specs.Trees.{Parts, parts_at}
-use Rattle.parse_laws.proofs.Walk.{Sim}
+use Rattle.parse_laws.proofs.Walk.{language, ahead, rule, told, built, Sim}
+use Rattle.parse_laws.proofs.Guided.{guided}
 
 -- `new` and its Member, and its arguments if they come
 abbrev pub new_form : Rule
@@ -23,7 +28,8 @@ pub record Parted (depth : ℕ) : Type 0 where
   pub computed_part : Sim depth (g.node_of (part_at depth) parts.ComputedKey) (call 7) ((parts_at depth).node_of parts.ComputedKey)
   pub array_part : Sim depth (g.node_of (part_at depth) parts.Array) (call 8) ((parts_at depth).node_of parts.Array)
   pub object_part : Sim depth (g.node_of (part_at depth) parts.Object) (call 9) ((parts_at depth).node_of parts.Object)
-  pub template_part : Sim depth (g.node_of (part_at depth) parts.Template) (call 11) ((parts_at depth).node_of parts.Template)
+  pub template_part : (t : Token) (ts : List Token) (ns : Nodes) → of_kind t.kind ≡ s.TemplateHead
+      → told (g.node_of (part_at depth) parts.Template (t ∷ ts, ns)) ≡ guided language ahead (rule depth) (call 11) (t ∷ ts) (built ((parts_at depth).node_of parts.Template) ns)
   pub expression_part : Sim depth (g.node_of (part_at depth) parts.FunctionExpression) (call 2) ((parts_at depth).node_of parts.FunctionExpression)
   pub declaration_part : Sim depth (g.node_of (part_at depth) parts.FunctionDeclaration) (call 3) ((parts_at depth).node_of parts.FunctionDeclaration)
   pub arrow_part : (allow_in : Bool) → Sim depth (g.node_of (part_at depth) (parts.ArrowBody allow_in)) (arrow_tail allow_in) ((parts_at depth).node_of (parts.ArrowBody true))

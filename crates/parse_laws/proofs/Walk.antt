@@ -503,3 +503,39 @@ pair-front depth x v t ts rest a b e =
     let f = read-front language ahead depth each-takes x v (t ∷ ts) rest a e in
     let same : f.0 ≡ t = let e' = f.2 in cc (e') in
     (ap (λ o. symbol_of_first (one_of o (first_token b))) f.3 ∙ ap (λ t. of_kind t.kind) same, ap (λ o. place_of_first (one_of o (first_token b))) f.3 ∙ ap (λ t. t.place) same)
+
+pub step-expect+ : {B : Type 0} {x : Symbol} {kinds : List ℕ} → Only x kinds → (t : Token) (ts : List Token) (ns : Nodes) (f : Unit {0} → Parser B) (k : Goes Token (B × Input))
+    → told (f tt (ts, ns)) ≡ k (leaf t) ts
+    → told (and_then (expect x (t ∷ ts, ns)) f) ≡ taking language kinds (t ∷ ts) k
+unfolding expect sees symbol next token_kind
+step-expect+ {B} {x} {kinds} only t ts ns f k h =
+    ap (λ b. told (expected b (t ∷ ts, ns) f)) (only.agrees (of_kind t.kind) t.broken) ∙ by (among kinds (token_kind t))
+  where
+    by : (b : Bool) → told (expected b (t ∷ ts, ns) f) ≡ (if b then k (leaf t) ts else None)
+    by true = h
+    by false = refl
+
+pub expect-end : {B : Type 0} {x : Symbol} {kinds : List ℕ} → Only x kinds → (ns : Nodes) (f : Unit {0} → Parser B) → told (and_then (expect x ([], ns)) f) ≡ None
+unfolding expect sees symbol
+expect-end only ns f = ap (λ b. told (expected b ([], ns) f)) only.no_end
+
+-- a token that has to come
+pub eat-need : {A : Type 0} {x : Symbol} {kinds : List ℕ} (depth : ℕ) → Only x kinds → (ts : List Token) (ns : Nodes) (g : Bool → Input → Outcome A) (y : Grammar Token)
+    (k : Goes Token (A × Input))
+    → ((t : Token) (rest : List Token) → told (g true (rest, ns)) ≡ guided language ahead (rule depth) y rest (λ b end. k (pair (leaf t) b) end))
+    → told (g false (ts, ns)) ≡ None
+    → told (g (sees x (ts, ns)) (after x (ts, ns))) ≡ guided language ahead (rule depth) (both (token kinds) y) ts k
+unfolding guided sees symbol after next token_kind
+eat-need {A} {x} {kinds} depth only [] ns g y k h o = ap (λ b. told (g b (if b then ([], ns) else ([], ns)))) only.no_end ∙ o
+eat-need {A} {x} {kinds} depth only (t ∷ ts) ns g y k h o =
+    ap (λ b. told (g b (if b then (ts, ns) else (t ∷ ts, ns)))) (only.agrees (of_kind t.kind) t.broken) ∙ by (among kinds (token_kind t))
+  where
+    by : (b : Bool) → told (g b (if b then (ts, ns) else (t ∷ ts, ns)))
+        ≡ (if b then guided language ahead (rule depth) y ts (λ b end. k (pair (leaf t) b) end) else None)
+    by true = h t ts
+    by false = o
+
+-- with the place of the first token
+pub sim-at : {A : Type 0} (depth : ℕ) (p : Parser A) (b : ℕ → Tree Token → Build A) (x : Grammar Token) → vacant x ≡ false
+    → ((ts : List Token) (ns : Nodes) → told (p (ts, ns)) ≡ guided language ahead (rule depth) x ts (built (b (place_at ts)) ns)) → Sim depth p x (λ tree. b (place_in tree) tree)
+sim-at depth p b x v h = record { holds = λ ts ns. h ts ns ∙ at-first depth b x v ts ns }

@@ -360,12 +360,12 @@ module _ (part : Parts) where
   unfoldable pub computed_key : Tree Token → Build NodeId
   computed_key tree = assign (first (second tree))
 
-  abbrev pub element_by : Symbol → Tree Token → Build NodeId
-  element_by s.Ellipsis tree = assign (second tree) >>= λ list. added (made.Spread list) (place_in tree)
-  element_by _ tree = assign tree
+  abbrev pub element_by : Symbol → ℕ → Tree Token → Build NodeId
+  element_by s.Ellipsis at tree = assign (second tree) >>= λ list. added (made.Spread list) at
+  element_by _ at tree = assign tree
 
   unfoldable pub element : Tree Token → Build NodeId
-  element tree = element_by (symbol_in tree) tree
+  element tree = element_by (symbol_in tree) (place_in tree) tree
 
   unfoldable pub arguments : Tree Token → Build (List NodeId)
   arguments tree = listed element (first (second tree))
