@@ -1,6 +1,6 @@
 -- What stands in brackets.
 use Rattle.std.proofs.Common.{inl, inr, true, false, Bool, ◌⊎◌, ◌≡◌, ℕ, zero, suc, List, [], ◌∷◌, ◌++◌, length, refl, ap, sym, subst, ◌∙◌, codes}
-use Rattle.std.specs.Prelude.{Option, Some, None, Ok, Err, if◌then◌else◌}
+use Rattle.std.specs.Prelude.{Option, Some, None, Ok, Err, is_none, if◌then◌else◌}
 use Rattle.grammar.specs.Kinds.{among, apart}
 use Rattle.grammar.specs.Reading.{firsts, nullable}
 use Rattle.grammar.specs.Tests.{InPlace}
@@ -8,6 +8,7 @@ use Rattle.grammar.specs.Grammar.{Tree, tip, leaf, pair, node, Grammar, both, ei
 use Rattle.js_token.specs.declared.token.Token.{Token}
 use Rattle.js_tree.specs.Nodes.{Nodes}
 use Rattle.js_tree.specs.declared.node.NodeId.{NodeId}
+use Rattle.js_tree.specs.declared.node.Node.{Node}
 use Rattle.js_tree.specs.declared.node.Node.TheVariants as made
 use Rattle.js_grammar.specs.Kinds.{kinds, mark}
 use Rattle.js_grammar.specs.Script.{Rule, rules, heads, any, always, optional, listed, element, assign_rule, group_rule, index_rule, computed_rule, array_rule, arguments_rule, arrow_rule, prefixed_rule, new_rule, member_rule, but_not, assign, expr}
@@ -16,7 +17,7 @@ use Rattle.js_parse.specs.declared.symbol.Symbol.TheVariants as s
 use Rattle.js_parse.specs.declared.part.Part.TheVariants as parts
 use Rattle.js_parse.specs.Symbols.{of_kind, same}
 use Rattle.js_parse.specs.Operators.{is_prefix, prefix_node}
-use Rattle.js_parse.specs.Input.{Parser, Outcome, Input, and_then, symbol, place, place_at, next, add, pure, expect, sees, after, peek, ◌>>=◌, ◌>>◌}
+use Rattle.js_parse.specs.Input.{refuse, Parser, Outcome, Input, and_then, symbol, place, place_at, next, add, pure, expect, sees, after, peek, ◌>>=◌, ◌>>◌}
 use Rattle.js_parse.specs.Grammar as g
 use Rattle.js_parse.specs.Nesting.{part_at}
 use Rattle.parse_laws.specs.Kinds.{numbered, token_kind}
@@ -24,7 +25,7 @@ use Rattle.parse_laws.specs.Trees as mk
 use Rattle.parse_laws.specs.Trees.{Parts, parts_at, place_in, symbol_in, first_token, first, second, under, Build}
 use Rattle.parse_laws.proofs.Guided.{guided, many_of, Goes, Was, done}
 use Rattle.parse_laws.proofs.Sound.{vacant, read-front}
-use Rattle.parse_laws.proofs.Walk.{language, ahead, rule, told, built, Sim, step, step+, step-same, step-same+, step-expect, step-expect+, expect-end, sim-by-at, sim-at, at_kind, kind-at, none-behind, on-true, on-false, pair-front, sees-starts, none-at_end, assoc, tables}
+use Rattle.parse_laws.proofs.Walk.{language, ahead, rule, told, built, Sim, step, step+, step-same, step-same+, step-expect, step-expect+, expect-end, sim-by, sim-by-at, sim-at, step-arrow, each-takes, at_kind, kind-at, none-behind, on-true, on-false, pair-front, sees-starts, none-at_end, assoc, tables}
 use Rattle.parse_laws.proofs.Symbols.{only-open_paren, only-close_paren, only-open_bracket, only-close_bracket, only-new}
 use Rattle.parse_laws.proofs.Loops.{listed-sim, none-first}
 use Rattle.parse_laws.proofs.Parted.{Parted}
@@ -92,3 +93,102 @@ module _ (depth : ℕ) (h : Parted depth) where
   array-sim = sim-at depth (g.array (part_at depth)) (λ at tree ns. mk.after (mk.listed (mk.element (parts_at depth)) (first (second tree)) ns) (λ items. mk.added (made.ArrayLit items) at)) array_rule refl
       (λ ts ns. step-expect only-open_bracket ts ns _ _ (λ t m.
       step (listed-sim depth element-sim element-takes element-placed element-full only-close_bracket elements-parted.1) m _ _ _ (λ a rest. refl)))
+
+  -- ---- `new`
+
+  abbrev pub new_args : Bool → Parser (List NodeId)
+  new_args true = g.nodes_of (part_at depth) parts.Arguments
+  new_args false = pure []
+
+  pub args-step : {A : Type 0} (ts : List Token) (ns : Nodes) (f : List NodeId → Parser A) (k : Goes Token (A × Input))
+      → ((c : Tree Token) (rest : List Token) → mk.absent c ≡ false → (let w = (parts_at depth).arguments_of c ns in told (f w.0 (rest, w.1))) ≡ k c rest) → told (f [] (ts, ns)) ≡ k tip ts
+      → told (and_then (g.new_arguments (part_at depth) (ts, ns)) f) ≡ guided language ahead (rule depth) (prefer (kinds (mark (codes "(") ∷ [])) (call 10)) ts k
+  unfolding g.new_arguments guided vacant
+  args-step {A} ts ns f k h' o = ap (λ b. told (and_then (new_args b (ts, ns)) f)) (sees-starts only-open_paren ts ns) ∙ by (starts language (among (kinds (mark (codes "(") ∷ []))) ts)
+    where
+      by : (b : Bool) → told (and_then (new_args b (ts, ns)) f) ≡ (if b then guided language ahead (rule depth) (call 10) ts k else k tip ts)
+      by true = step+ h.arguments_part ts ns _ _ (λ c rest e. h' c rest (let w = read-front language ahead depth each-takes (call 10) refl ts rest c e in ap (λ o. is_none o) w.3))
+      by false = o
+
+  abbrev pub new_built : ℕ → Tree Token → Build NodeId
+  new_built at tree ns = mk.after (mk.sided (parts_at depth) (second (first tree)) ns) (λ callee ns. mk.after (mk.new_arguments (parts_at depth) (second tree) ns) (λ arguments. mk.added (made.New callee arguments) at))
+
+  pub new-sim : Sim depth (g.new_call (part_at depth)) (both (line 13 new_rule) (prefer (kinds (mark (codes "(") ∷ [])) (call 10))) (mk.new_call (parts_at depth))
+  unfolding g.new_call new_rule member_rule mk.new_call guided place add vacant first_token
+  new-sim = sim-at depth (g.new_call (part_at depth)) new_built (both (line 13 new_rule) (prefer (kinds (mark (codes "(") ∷ [])) (call 10))) refl
+      (λ ts ns. step-expect only-new ts ns _ _ (λ t m.
+      sym (assoc (g.primary (part_at depth) (m, ns)) (g.suffixes (part_at depth) false (place_at m)) _)
+      ∙ step (Expressions.sided-sim depth h false) m ns _ _ (λ a n. args-step n _ _ _
+      (λ c rest z. ap (λ b. let w = mk.after ((if b then mk.pure [] else (parts_at depth).arguments_of c) (mk.sided (parts_at depth) a ns).1) (λ arguments. mk.added (made.New (mk.sided (parts_at depth) a ns).0 arguments) (place_at ts)) in Some (w.0, (rest, w.1))) (sym z))
+      refl)))
+
+  -- ---- an operator before an operand
+
+  abbrev pub operation_if : ℕ → Option Node → Parser NodeId
+  operation_if at None = refuse
+  operation_if at (Some operation) = add operation at
+
+  abbrev pub prefix_by : Symbol → Parser NodeId
+  prefix_by symbol i = and_then (g.unary (part_at depth) (next i)) (λ operand. operation_if (place i) (prefix_node symbol operand.0))
+
+  abbrev pub prefix_built : ℕ → Symbol → Tree Token → Build NodeId
+  prefix_built at symbol tree ns = mk.after (mk.unary (parts_at depth) (second tree) ns) (λ operand. mk.added_if operand (prefix_node symbol operand) at)
+
+  pub prefix-at : (t : Token) (ts : List Token) (ns : Nodes) (symbol : Symbol) (broken : Bool) → of_kind t.kind ≡ symbol → t.broken ≡ broken
+      → told (prefix_by symbol (t ∷ ts, ns)) ≡ at_kind depth (numbered symbol broken) prefixed_rule (t ∷ ts) (built (prefix_built t.place symbol) ns)
+  unfolding at_kind tables prefixed_rule next place add guided mk.unary
+  prefix-at t ts ns s.Not false e f = step (Expressions.unary-sim depth h) ts ns _ _ (λ a rest. refl)
+  prefix-at t ts ns s.Not true e f = step (Expressions.unary-sim depth h) ts ns _ _ (λ a rest. refl)
+  prefix-at t ts ns s.BitNot false e f = step (Expressions.unary-sim depth h) ts ns _ _ (λ a rest. refl)
+  prefix-at t ts ns s.BitNot true e f = step (Expressions.unary-sim depth h) ts ns _ _ (λ a rest. refl)
+  prefix-at t ts ns s.Plus false e f = step (Expressions.unary-sim depth h) ts ns _ _ (λ a rest. refl)
+  prefix-at t ts ns s.Plus true e f = step (Expressions.unary-sim depth h) ts ns _ _ (λ a rest. refl)
+  prefix-at t ts ns s.Minus false e f = step (Expressions.unary-sim depth h) ts ns _ _ (λ a rest. refl)
+  prefix-at t ts ns s.Minus true e f = step (Expressions.unary-sim depth h) ts ns _ _ (λ a rest. refl)
+  prefix-at t ts ns s.Typeof false e f = step (Expressions.unary-sim depth h) ts ns _ _ (λ a rest. refl)
+  prefix-at t ts ns s.Typeof true e f = step (Expressions.unary-sim depth h) ts ns _ _ (λ a rest. refl)
+  prefix-at t ts ns s.Void false e f = step (Expressions.unary-sim depth h) ts ns _ _ (λ a rest. refl)
+  prefix-at t ts ns s.Void true e f = step (Expressions.unary-sim depth h) ts ns _ _ (λ a rest. refl)
+  prefix-at t ts ns s.Delete false e f = step (Expressions.unary-sim depth h) ts ns _ _ (λ a rest. refl)
+  prefix-at t ts ns s.Delete true e f = step (Expressions.unary-sim depth h) ts ns _ _ (λ a rest. refl)
+  prefix-at t ts ns s.Increment false e f = step (Expressions.unary-sim depth h) ts ns _ _ (λ a rest. refl)
+  prefix-at t ts ns s.Increment true e f = step (Expressions.unary-sim depth h) ts ns _ _ (λ a rest. refl)
+  prefix-at t ts ns s.Decrement false e f = step (Expressions.unary-sim depth h) ts ns _ _ (λ a rest. refl)
+  prefix-at t ts ns s.Decrement true e f = step (Expressions.unary-sim depth h) ts ns _ _ (λ a rest. refl)
+  prefix-at t ts ns _ false e f = none-behind (g.unary (part_at depth) (ts, ns)) _ (λ a i. refl)
+  prefix-at t ts ns _ true e f = none-behind (g.unary (part_at depth) (ts, ns)) _ (λ a i. refl)
+
+  pub prefix-sim : Sim depth (g.prefix (part_at depth)) prefixed_rule (mk.prefix (parts_at depth))
+  unfolding g.prefix mk.prefix prefixed_rule vacant symbol
+  prefix-sim = sim-by-at depth prefix_by prefix_built prefixed_rule refl (λ ns. none-behind (g.unary (part_at depth) (next ([], ns))) _ (λ a i. refl)) prefix-at
+
+  -- ---- the body of an arrow
+
+  abbrev pub body_by : Bool → Symbol → Parser NodeId
+  body_by allow_in symbol i = (if same symbol s.OpenBrace then g.node_of (part_at depth) parts.Block else g.assign (part_at depth) allow_in) i
+
+  abbrev pub body_x : Bool → Rule
+  body_x allow_in = either (call 1) (but_not (mark (codes "{") ∷ []) (assign allow_in))
+
+  pub body-at : (allow_in : Bool) (t : Token) (ts : List Token) (ns : Nodes) (symbol : Symbol) (broken : Bool) → of_kind t.kind ≡ symbol → t.broken ≡ broken
+      → told (body_by allow_in symbol (t ∷ ts, ns)) ≡ at_kind depth (numbered symbol broken) (body_x allow_in) (t ∷ ts) (built (mk.arrow_body_by (parts_at depth) symbol) ns)
+  unfolding at_kind tables same
+  body-at allow_in t ts ns s.OpenBrace false e f = h.block_part.holds (t ∷ ts) ns
+  body-at allow_in t ts ns s.OpenBrace true e f = h.block_part.holds (t ∷ ts) ns
+  body-at allow_in t ts ns _ false e f = (assign-sim depth h allow_in).holds (t ∷ ts) ns
+  body-at allow_in t ts ns _ true e f = (assign-sim depth h allow_in).holds (t ∷ ts) ns
+
+  pub body-takes : (allow_in : Bool) → vacant (body_x allow_in) ≡ false
+  unfolding vacant
+  body-takes allow_in = assign-takes depth h allow_in
+
+  pub body-end : (allow_in : Bool) (ns : Nodes) → told (body_by allow_in s.End ([], ns)) ≡ None
+  unfolding same
+  body-end allow_in ns = (assign-sim depth h allow_in).holds [] ns ∙ none-at_end depth (assign_rule allow_in) (assign-takes depth h allow_in) _
+
+  pub body-sim : (allow_in : Bool) → Sim depth (peek >>= body_by allow_in) (body_x allow_in) (λ tree. mk.arrow_body_by (parts_at depth) (symbol_in tree) tree)
+  body-sim allow_in = sim-by depth (body_by allow_in) (mk.arrow_body_by (parts_at depth)) (body_x allow_in) (body-takes allow_in) (body-end allow_in) (body-at allow_in)
+
+  pub arrow_body-sim : (allow_in : Bool) → Sim depth (g.arrow_body (part_at depth) allow_in) (arrow_rule allow_in) (mk.arrow_body (parts_at depth))
+  unfolding g.arrow_body arrow_rule mk.arrow_body guided sees
+  arrow_body-sim allow_in = record { holds = λ ts ns. step-arrow ts ns _ _ (λ t m. step-same (body-sim allow_in) m ns _ (λ a rest. refl)) }

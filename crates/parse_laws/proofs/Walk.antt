@@ -11,7 +11,7 @@ use Rattle.grammar.proofs.Complete.{derives-begun, spells-begun}
 use Rattle.js_token.specs.declared.token.Token.{Token}
 use Rattle.js_tree.specs.Nodes.{Nodes}
 use Rattle.js_grammar.specs.Kinds.{kinds, unbroken_kinds, names, reserved, place_in as kind_place, mark, word, marks, words, contextual}
-use Rattle.js_grammar.specs.Script.{rules, heads, any, member_suffix, script_language, pattern_rule, primary_rule, member_rule, left_rule, unary_rule, mul_rule, add_rule, shift_rule, rel_rule, equal_rule, bit_and_rule, bit_xor_rule, bit_or_rule, and_rule, or_rule, short_rule, cond_rule, assign_rule, expr_rule, arrow_rule, prefixed_rule, new_rule, group_rule, index_rule, computed_rule, array_rule, arguments_rule, template_rule, object_rule, function_rule, declared_rule, parameters_rule, no_parameters_rule, one_parameter_rule, stmt_rule, item_rule, block_rule, for_rule, script_rule}
+use Rattle.js_grammar.specs.Script.{rules, heads, arrow_kinds, any, member_suffix, script_language, pattern_rule, primary_rule, member_rule, left_rule, unary_rule, mul_rule, add_rule, shift_rule, rel_rule, equal_rule, bit_and_rule, bit_xor_rule, bit_or_rule, and_rule, or_rule, short_rule, cond_rule, assign_rule, expr_rule, arrow_rule, prefixed_rule, new_rule, group_rule, index_rule, computed_rule, array_rule, arguments_rule, template_rule, object_rule, function_rule, declared_rule, parameters_rule, no_parameters_rule, one_parameter_rule, stmt_rule, item_rule, block_rule, for_rule, script_rule}
 use Rattle.js_grammar.proofs.Tables.{tails}
 use Rattle.js_grammar.proofs.Passes.{script-fits}
 use Rattle.js_parse.specs.declared.symbol.Symbol.{Symbol}
@@ -19,7 +19,7 @@ use Rattle.js_parse.specs.declared.symbol.Symbol.TheVariants as s
 use Rattle.js_parse.specs.declared.fault.Fault.{Fault}
 use Rattle.js_parse.specs.declared.fault.Fault.TheVariants as fault
 use Rattle.js_parse.specs.Symbols.{same, of_kind, is_name, is_any_name}
-use Rattle.js_parse.specs.Input.{Input, Outcome, Parser, and_then, or_later, later, expect, sees, after, next, refusal, symbol, symbol as symbol_named, is_arrow_ahead, is_arrow_next, ◌>>=◌, peek, here, place, place_at, name as a_name, any_name, text_of, text, take_text, refuse, fork as fork_of}
+use Rattle.js_parse.specs.Input.{Input, Outcome, Parser, and_then, or_later, later, expect, sees, after, next, refusal, symbol, symbol as symbol_named, is_arrow_ahead, is_arrow_next, arrow, is_arrow, ◌>>=◌, peek, here, place, place_at, name as a_name, any_name, text_of, text, take_text, refuse, fork as fork_of}
 use Rattle.parse_laws.specs.Kinds.{token_kind, numbered}
 use Rattle.parse_laws.specs.Trees.{Build, first_token, symbol_in, symbol_of_first, place_in, place_of_first, one_of, Parts, parts_at}
 use Rattle.parse_laws.proofs.Guided.{Was, Goes, done, called, taking, many_of, guided, rule_at, some_same, called_some, was, many-continues, guided-continues}
@@ -539,3 +539,22 @@ eat-need {A} {x} {kinds} depth only (t ∷ ts) ns g y k h o =
 pub sim-at : {A : Type 0} (depth : ℕ) (p : Parser A) (b : ℕ → Tree Token → Build A) (x : Grammar Token) → vacant x ≡ false
     → ((ts : List Token) (ns : Nodes) → told (p (ts, ns)) ≡ guided language ahead (rule depth) x ts (built (b (place_at ts)) ns)) → Sim depth p x (λ tree. b (place_in tree) tree)
 sim-at depth p b x v h = record { holds = λ ts ns. h ts ns ∙ at-first depth b x v ts ns }
+
+pub arrow-agrees : (symbol : Symbol) (broken : Bool) → (if broken then false else same symbol s.Arrow) ≡ among arrow_kinds (numbered symbol broken)
+unfolding same tables
+arrow-agrees s.Arrow false = refl
+arrow-agrees s.Arrow true = refl
+arrow-agrees _ false = refl
+arrow-agrees _ true = refl
+
+pub step-arrow : {B : Type 0} (ts : List Token) (ns : Nodes) (f : Unit {0} → Parser B) (k : Goes Token (B × Input))
+    → ((t : Token) (rest : List Token) → told (f tt (rest, ns)) ≡ k (leaf t) rest)
+    → told (and_then (arrow (ts, ns)) f) ≡ taking language arrow_kinds ts k
+unfolding arrow is_arrow next token_kind
+step-arrow [] ns f k h = refl
+step-arrow {B} (t ∷ ts) ns f k h =
+    ap (λ b. told (expected b (t ∷ ts, ns) f)) (arrow-agrees (of_kind t.kind) t.broken) ∙ by (among arrow_kinds (token_kind t))
+  where
+    by : (b : Bool) → told (expected b (t ∷ ts, ns) f) ≡ (if b then k (leaf t) ts else None)
+    by true = h t ts
+    by false = refl
