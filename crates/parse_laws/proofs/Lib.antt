@@ -13,4 +13,6 @@ pub mod Assigning
 pub mod Arrows
 pub mod Bracketed
 pub mod Patterns
+pub mod Declared
+pub mod Stated
 pub mod Rows

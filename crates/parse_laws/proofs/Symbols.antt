@@ -313,3 +313,8 @@ pub is-new : (symbol : Symbol) → same symbol s.New ≡ true → symbol ≡ s.N
 unfolding same
 is-new s.New e = refl
 is-new _ e = absurd (cc (e))
+
+pub is-finally : (symbol : Symbol) → same symbol s.Finally ≡ true → symbol ≡ s.Finally
+unfolding same
+is-finally s.Finally e = refl
+is-finally _ e = absurd (cc (e))

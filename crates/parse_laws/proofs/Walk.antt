@@ -1,7 +1,7 @@
 -- Steps by which what the parser reads is compared with what is read by the grammar.
 use Rattle.std.proofs.Common.{inl, inr, true, false, Bool, ◌⊎◌, ◌≡◌, ℕ, zero, suc, ◌+◌, ◌<◌, ◌≤◌, List, [], ◌∷◌, ◌++◌, length, refl, ap, sym, subst, ◌∙◌, arith, codes}
 use Rattle.std.proofs.lemmas.List.{append-nil}
-use Rattle.std.specs.Prelude.{if◌then◌else◌, ◌==◌, Option, Some, None, Ok, Err}
+use Rattle.std.specs.Prelude.{if◌then◌else◌, ◌==◌, ◌%◌, Option, Some, None, Ok, Err}
 use Rattle.grammar.specs.Kinds.{among, kept, alike}
 use Rattle.grammar.specs.Grammar.{Tree, tip, leaf, pair, node, Grammar, empty, token, call, line, both, either, fork, many, named, prefer, starting, on, entry, Language, starts, Derives, Spells, Chain}
 use Rattle.grammar.specs.Reading.{firsts, nullable}
@@ -558,3 +558,41 @@ step-arrow {B} (t ∷ ts) ns f k h =
     by : (b : Bool) → told (expected b (t ∷ ts, ns) f) ≡ (if b then k (leaf t) ts else None)
     by true = h t ts
     by false = refl
+
+-- where it comes, the token and what follows it
+pub eat-prefer : {A : Type 0} {x : Symbol} {kinds : List ℕ} (depth : ℕ) → Only x kinds → (ts : List Token) (ns : Nodes) (g : Bool → Input → Outcome A) (y : Grammar Token)
+    (k : Goes Token (A × Input))
+    → ((t : Token) (rest : List Token) → told (g true (rest, ns)) ≡ guided language ahead (rule depth) y rest (λ b end. k (pair (leaf t) b) end))
+    → told (g false (ts, ns)) ≡ k tip ts
+    → told (g (sees x (ts, ns)) (after x (ts, ns))) ≡ guided language ahead (rule depth) (prefer kinds (both (token kinds) y)) ts k
+unfolding guided sees symbol after next token_kind
+eat-prefer {A} {x} {kinds} depth only [] ns g y k h o = ap (λ b. told (g b (if b then ([], ns) else ([], ns)))) only.no_end ∙ o
+eat-prefer {A} {x} {kinds} depth only (t ∷ ts) ns g y k h o =
+    ap (λ b. told (g b (if b then (ts, ns) else (t ∷ ts, ns)))) (only.agrees (of_kind t.kind) t.broken) ∙ by (among kinds (token_kind t))
+  where
+    by : (b : Bool) → told (g b (if b then (ts, ns) else (t ∷ ts, ns)))
+        ≡ (if b then (if b then guided language ahead (rule depth) y ts (λ b end. k (pair (leaf t) b) end) else None) else k tip (t ∷ ts))
+    by true = h t ts
+    by false = o
+
+-- a token that has to come, and is told
+pub eat-need+ : {A : Type 0} {x : Symbol} {kinds : List ℕ} (depth : ℕ) → Only x kinds → (ts : List Token) (ns : Nodes) (g : Bool → Input → Outcome A) (y : Grammar Token)
+    (k : Goes Token (A × Input))
+    → ((t : Token) (rest : List Token) → same (of_kind t.kind) x ≡ true → told (g true (rest, ns)) ≡ guided language ahead (rule depth) y rest (λ b end. k (pair (leaf t) b) end))
+    → told (g false (ts, ns)) ≡ None
+    → told (g (sees x (ts, ns)) (after x (ts, ns))) ≡ guided language ahead (rule depth) (both (token kinds) y) ts k
+unfolding guided sees symbol after next token_kind
+eat-need+ {A} {x} {kinds} depth only [] ns g y k h o = ap (λ b. told (g b (if b then ([], ns) else ([], ns)))) only.no_end ∙ o
+eat-need+ {A} {x} {kinds} depth only (t ∷ ts) ns g y k h o =
+    ap (λ b. told (g b (if b then (ts, ns) else (t ∷ ts, ns)))) (only.agrees (of_kind t.kind) t.broken) ∙ by (among kinds (token_kind t)) refl
+  where
+    by : (b : Bool) → among kinds (token_kind t) ≡ b → told (g b (if b then (ts, ns) else (t ∷ ts, ns)))
+        ≡ (if b then guided language ahead (rule depth) y ts (λ b end. k (pair (leaf t) b) end) else None)
+    by true e = h t ts (only.agrees (of_kind t.kind) t.broken ∙ e)
+    by false e = o
+
+pub even-kind : (symbol : Symbol) (broken : Bool) → (numbered symbol broken % 2 == 0) ≡ (if broken then false else true)
+even-kind s.Arrow false = refl
+even-kind s.Arrow true = refl
+even-kind _ false = refl
+even-kind _ true = refl
