@@ -15,4 +15,5 @@ pub mod Bracketed
 pub mod Patterns
 pub mod Declared
 pub mod Stated
+pub mod Headed
 pub mod Rows

@@ -466,15 +466,11 @@ module _ (part : Parts) where
   unfoldable pub declarators : List Declarator → Tree Token → Build (List Declarator)
   declarators = all_behind (λ m. declarator (second m))
 
-  abbrev pub is_constant : Symbol → Bool
-  is_constant s.Const = true
-  is_constant _ = false
-
-  unfoldable pub declaration : Tree Token → Build NodeId
-  declaration tree = do
+  unfoldable pub declaration : Bool → ℕ → Tree Token → Build NodeId
+  declaration constant at tree = do
     one ← declarator (first (second tree))
     pairs ← declarators (one ∷ []) (second (second tree))
-    added (declaration_node (is_constant (symbol_in tree)) pairs) (place_in tree)
+    added (declaration_node constant pairs) at
 
   -- ---- statements
 
@@ -524,34 +520,34 @@ module _ (part : Parts) where
     c ← caught_by (symbol_in (second (second tree))) (second (second tree))
     added (made.Try block c.0 c.1 c.2) (place_in tree)
 
-  unfoldable pub expression_statement : Tree Token → Build NodeId
-  expression_statement tree = expression (first tree) >>= λ value. added (made.ExprStmt value) (place_in tree)
+  unfoldable pub expression_statement : ℕ → Tree Token → Build NodeId
+  expression_statement at tree = expression (first tree) >>= λ value. added (made.ExprStmt value) at
 
-  abbrev pub statement_by : Symbol → Tree Token → Build NodeId
-  statement_by s.OpenBrace tree = part.node_of parts.Block tree
-  statement_by s.Semicolon tree = added made.Empty (place_in tree)
-  statement_by s.If tree = if_statement tree
-  statement_by s.While tree = while_statement tree
-  statement_by s.Do tree = do_statement tree
-  statement_by s.For tree = for_statement tree
-  statement_by s.Return tree = return_statement tree
-  statement_by s.Break tree = added made.Break (place_in tree)
-  statement_by s.Continue tree = added made.Continue (place_in tree)
-  statement_by s.Throw tree = throw_statement tree
-  statement_by s.Try tree = try_statement tree
-  statement_by _ tree = expression_statement tree
+  abbrev pub statement_by : Symbol → ℕ → Tree Token → Build NodeId
+  statement_by s.OpenBrace at tree = part.node_of parts.Block tree
+  statement_by s.Semicolon at tree = added made.Empty at
+  statement_by s.If at tree = if_statement tree
+  statement_by s.While at tree = while_statement tree
+  statement_by s.Do at tree = do_statement tree
+  statement_by s.For at tree = for_statement tree
+  statement_by s.Return at tree = return_statement tree
+  statement_by s.Break at tree = added made.Break at
+  statement_by s.Continue at tree = added made.Continue at
+  statement_by s.Throw at tree = throw_statement tree
+  statement_by s.Try at tree = try_statement tree
+  statement_by _ at tree = expression_statement at tree
 
   unfoldable pub statement : Tree Token → Build NodeId
-  statement tree = statement_by (symbol_in tree) tree
+  statement tree = statement_by (symbol_in tree) (place_in tree) tree
 
-  abbrev pub item_by : Symbol → Tree Token → Build NodeId
-  item_by s.Let tree = declaration (first tree)
-  item_by s.Const tree = declaration (first tree)
-  item_by s.Function tree = part.node_of parts.FunctionDeclaration tree
-  item_by _ tree = statement tree
+  abbrev pub item_by : Symbol → ℕ → Tree Token → Build NodeId
+  item_by s.Let at tree = declaration false at (first tree)
+  item_by s.Const at tree = declaration true at (first tree)
+  item_by s.Function at tree = part.node_of parts.FunctionDeclaration tree
+  item_by _ at tree = statement tree
 
   unfoldable pub item : Tree Token → Build NodeId
-  item tree = item_by (symbol_in tree) tree
+  item tree = item_by (symbol_in tree) (place_in tree) tree
 
   unfoldable pub block : Tree Token → Build NodeId
   block tree = all_behind item [] (first (second tree)) >>= λ items. added (made.Block items) (place_in tree)
@@ -574,17 +570,17 @@ module _ (part : Parts) where
     id ← added (declaration_node constant pairs) at
     loop_head (Some id) (second (second tree))
 
-  unfoldable pub declared : Bool → Tree Token → Build Head
-  declared constant tree = bind (first (second tree)) >>= λ bound. declared_by (symbol_in (second (second tree))) constant (place_in tree) bound (second (second tree))
+  unfoldable pub declared : Bool → ℕ → Tree Token → Build Head
+  declared constant at tree = bind (first (second tree)) >>= λ bound. declared_by (symbol_in (second (second tree))) constant at bound (second (second tree))
 
-  abbrev pub head_by : Symbol → Tree Token → Build Head
-  head_by s.Let tree = declared false tree
-  head_by s.Const tree = declared true tree
-  head_by s.Semicolon tree = loop_head None tree
-  head_by _ tree = expression (first tree) >>= λ start. loop_head (Some start) (second tree)
+  abbrev pub head_by : Symbol → ℕ → Tree Token → Build Head
+  head_by s.Let at tree = declared false at tree
+  head_by s.Const at tree = declared true at tree
+  head_by s.Semicolon at tree = loop_head None tree
+  head_by _ at tree = expression (first tree) >>= λ start. loop_head (Some start) (second tree)
 
   unfoldable pub for_head : Tree Token → Build Head
-  for_head tree = head_by (symbol_in (first (second tree))) (first (second tree))
+  for_head tree = head_by (symbol_in (first (second tree))) (place_in (first (second tree))) (first (second tree))
 
   -- ---- scripts
 
