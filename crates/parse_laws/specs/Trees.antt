@@ -580,7 +580,7 @@ module _ (part : Parts) where
   head_by _ at tree = expression (first tree) >>= λ start. loop_head (Some start) (second tree)
 
   unfoldable pub for_head : Tree Token → Build Head
-  for_head tree = head_by (symbol_in (first (second tree))) (place_in (first (second tree))) (first (second tree))
+  for_head tree = head_by (symbol_in (second tree)) (place_in (second tree)) (first (second tree))
 
   -- ---- scripts
 
