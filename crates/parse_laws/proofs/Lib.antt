@@ -13,6 +13,8 @@ pub mod Assigning
 pub mod Arrows
 pub mod Bracketed
 pub mod Patterns
+pub mod Parametered
+pub mod Templated
 pub mod Declared
 pub mod Stated
 pub mod Headed
