@@ -15,6 +15,7 @@ pub mod Bracketed
 pub mod Patterns
 pub mod Parametered
 pub mod Templated
+pub mod Membered
 pub mod Declared
 pub mod Stated
 pub mod Headed

@@ -212,3 +212,13 @@ module _ {A : Type 0} (l : Language A) where
   read-shorter ahead depth v x ts rest a e =
       no-longer l (vacant x) ts rest a (spells-fronted (Derives l depth) (derives-fronted v depth) x ts rest a
       (guided-finds l ahead (rule_at l ahead depth) (Derives l depth) (rule-finds l ahead depth) x ts (a, rest) e))
+
+  pub read-maybe : (ahead : List A → Bool) (depth : ℕ) → ((n : ℕ) → vacant (l.rules n) ≡ false) → (x : Grammar A) → (ts rest : List A) (a : Tree A)
+      → guided l ahead (rule_at l ahead depth) x ts done ≡ Some (a, rest)
+      → (first_token a ≡ None) ⊎ ((t : A) × (others : List A) × (ts ≡ t ∷ others) × (first_token a ≡ Some t))
+  read-maybe ahead depth v x ts rest a e =
+      elim (spells-fronted (Derives l depth) (derives-fronted v depth) x ts rest a
+      (guided-finds l ahead (rule_at l ahead depth) (Derives l depth) (rule-finds l ahead depth) x ts (a, rest) e)) [
+        | inl h ↦ inl h.2
+        | inr h ↦ inr (h.0, h.1, h.2, h.3)
+      ]

@@ -416,17 +416,20 @@ module _ (part : Parts) where
     function ← part.function_in how (second tree)
     added (node_with written function) at
 
-  abbrev pub member_by : Symbol → Tree Token → Build NodeId
-  member_by s.Get tree = if begins_key (symbol_in (second tree)) then accessor parts.Getter (λ k f. made.Getter k f) (place_in tree) (second tree)
-      else named_member (text_in tree) (place_in tree) (second tree)
-  member_by s.Set tree = if begins_key (symbol_in (second tree)) then accessor parts.Setter (λ k f. made.Setter k f) (place_in tree) (second tree)
-      else named_member (text_in tree) (place_in tree) (second tree)
-  member_by s.Name tree = named_member (text_in tree) (place_in tree) (second tree)
-  member_by s.Of tree = named_member (text_in tree) (place_in tree) (second tree)
-  member_by _ tree = property_key (first tree) >>= λ written. member_under written (place_in tree) (second tree)
+  -- behind `get` or `set`: a key and a function, or as behind a name
+  abbrev pub accessor_if : Bool → Part → (PropertyKey → Function → Node) → List ℕ → ℕ → Tree Token → Build NodeId
+  accessor_if true how node_with text at tree = accessor how node_with at tree
+  accessor_if false how node_with text at tree = named_member text at tree
+
+  abbrev pub member_by : Symbol → ℕ → Tree Token → Build NodeId
+  member_by s.Get at tree = accessor_if (begins_key (symbol_in (second tree))) parts.Getter (λ k f. made.Getter k f) (text_in tree) at (second tree)
+  member_by s.Set at tree = accessor_if (begins_key (symbol_in (second tree))) parts.Setter (λ k f. made.Setter k f) (text_in tree) at (second tree)
+  member_by s.Name at tree = named_member (text_in tree) at (second tree)
+  member_by s.Of at tree = named_member (text_in tree) at (second tree)
+  member_by _ at tree = property_key (first tree) >>= λ written. member_under written at (second tree)
 
   unfoldable pub member : Tree Token → Build NodeId
-  member tree = member_by (symbol_in tree) tree
+  member tree = member_by (symbol_in tree) (place_in tree) tree
 
   unfoldable pub object : Tree Token → Build NodeId
   object tree = listed member (first (second tree)) >>= λ found. added (made.ObjectLit found) (place_in tree)

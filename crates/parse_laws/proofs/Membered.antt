@@ -1,0 +1,187 @@
+-- Members of object literals.
+use Rattle.std.proofs.Common.{inl, inr, true, false, Bool, ◌⊎◌, ◌≡◌, ℕ, zero, suc, ◌≤◌, List, [], ◌∷◌, ◌++◌, length, refl, ap, sym, subst, ◌∙◌, codes, arith}
+use Rattle.std.specs.Prelude.{Option, Some, None, Ok, Err, if◌then◌else◌}
+use Rattle.grammar.specs.Kinds.{among, apart}
+use Rattle.grammar.specs.Reading.{firsts, nullable}
+use Rattle.grammar.specs.Tests.{InPlace}
+use Rattle.grammar.specs.Grammar.{Tree, tip, leaf, pair, node, Grammar, both, either, call, empty, token, many, named, on, prefer, line, starts, entry}
+use Rattle.std.proofs.lemmas.List.{append-nil}
+use Rattle.js_token.specs.declared.token.Token.{Token}
+use Rattle.js_tree.specs.Nodes.{Nodes}
+use Rattle.js_tree.specs.declared.node.NodeId.{NodeId}
+use Rattle.js_tree.specs.declared.node.Node.TheVariants as made
+use Rattle.js_tree.specs.declared.node.BindProperty.{BindProperty}
+use Rattle.js_tree.specs.declared.node.Function.{Function}
+use Rattle.js_grammar.specs.Kinds.{kinds, mark, word, names, reserved}
+use Rattle.js_grammar.specs.Script.{key, behind_key, property, object_rule, computed_key, method, getter, setter, assign, assign_rule, Rule, rules, heads, any, always, optional, listed, bind, default, identifier, parameter, pattern_member, pattern_rule, parameters_rule, no_parameters_rule, one_parameter_rule, function_rule, declared_rule, function_rest, any_name}
+use Rattle.js_parse.specs.declared.symbol.Symbol.{Symbol}
+use Rattle.js_parse.specs.declared.symbol.Symbol.TheVariants as s
+use Rattle.js_parse.specs.declared.part.Part.{Part}
+use Rattle.js_parse.specs.declared.part.Part.TheVariants as parts
+use Rattle.js_parse.specs.declared.part.Found.{Found}
+use Rattle.js_parse.specs.declared.part.Parameters.{Parameters}
+use Rattle.js_parse.specs.Symbols.{of_kind, same, is_name, is_any_name}
+use Rattle.js_parse.specs.Input.{number, take_number, ◌<$>◌, Parser, Outcome, Input, and_then, symbol, text as text_next, any_name as any_name_next, text_of, place, place_at, next, add, pure, refuse, refusal, take_text, expect, sees, after, peek, here, ◌>>=◌, ◌>>◌}
+use Rattle.js_parse.specs.Grammar as g
+use Rattle.js_parse.specs.Grammar.{number_key, begins_key}
+use Rattle.js_tree.specs.declared.node.PropertyKey.{PropertyKey}
+use Rattle.js_tree.specs.declared.node.PropertyKey.TheVariants as pkey
+use Rattle.js_tree.specs.declared.node.Node.{Node}
+use Rattle.js_parse.specs.Statements as st
+use Rattle.js_parse.specs.Nesting.{part_at}
+use Rattle.parse_laws.specs.Kinds.{numbered, token_kind}
+use Rattle.parse_laws.specs.Trees as mk
+use Rattle.parse_laws.specs.Trees.{Parts, parts_at, place_in, symbol_in, first_token, first, second, under, Build}
+use Rattle.parse_laws.proofs.Guided.{guided, many_of, Goes, Was, done}
+use Rattle.parse_laws.proofs.Sound.{vacant, read-front, read-maybe}
+use Rattle.parse_laws.proofs.Walk.{ahead, rule, told, built, Sim, step, step+, step-same, step-same+, step-expect, step-expect+, expect-end, eat-step, eat-need, if-alike, goes-so, each-takes, language, sees-starts, sim-by, sim-by-at, sim-at, at_kind, kind-at, any_name-at, step-name, name-agrees, none-at_end, assoc, tables}
+use Rattle.parse_laws.proofs.Symbols.{only-open_brace, only-open_paren, only-close_paren, only-close_brace, only-close_bracket, only-colon, only-function}
+use Rattle.parse_laws.proofs.Loops.{listed-sim, none-first}
+use Rattle.parse_laws.proofs.Parted.{Parted}
+use Rattle.parse_laws.proofs.Arrows.{assign-sim}
+use Rattle.parse_laws.proofs.Bindings.{bind_name-sim, bind-sim, default-sim, element-sim}
+
+abbrev pub key_by : (Part → Parser Found) → Symbol → Parser PropertyKey
+key_by part s.OpenBracket = pkey.Computed <$> g.node_of part parts.ComputedKey
+key_by part s.Text = pkey.Written <$> take_text
+key_by part s.Number = number_key <$> take_number
+key_by part _ = pkey.Written <$> any_name_next
+
+module _ (depth : ℕ) (h : Parted depth) where
+  pub key-at : (t : Token) (ts : List Token) (ns : Nodes) (symbol : Symbol) (broken : Bool) → of_kind t.kind ≡ symbol → t.broken ≡ broken
+      → told (key_by (part_at depth) symbol (t ∷ ts, ns)) ≡ at_kind depth (numbered symbol broken) key (t ∷ ts) (built (mk.key_by (parts_at depth) symbol) ns)
+  unfolding at_kind tables text_next number next first_token guided
+  key-at t ts ns s.OpenBracket false e f = step h.computed_part (t ∷ ts) ns _ _ (λ a rest. refl)
+  key-at t ts ns s.OpenBracket true e f = step h.computed_part (t ∷ ts) ns _ _ (λ a rest. refl)
+  key-at t ts ns s.Text false e f = refl
+  key-at t ts ns s.Text true e f = refl
+  key-at t ts ns s.Number false e f = refl
+  key-at t ts ns s.Number true e f = refl
+  key-at t ts ns x false e f = any_name-at x t ts ns _ e
+  key-at t ts ns x true e f = any_name-at x t ts ns _ e
+
+  pub key-sim : Sim depth (g.property_key (part_at depth)) key (mk.property_key (parts_at depth))
+  unfolding g.property_key mk.property_key vacant any_name_next symbol
+  key-sim = sim-by depth (key_by (part_at depth)) (mk.key_by (parts_at depth)) key refl (λ ns. refl) key-at
+
+  -- ---- behind a key
+
+  abbrev pub under_by : PropertyKey → ℕ → Symbol → Parser NodeId
+  under_by written at symbol i = (if same symbol s.Colon then (g.assign (part_at depth) true >>= λ value. add (made.Property written value) at)
+      else (g.body_of (part_at depth) parts.Method >>= λ function. add (made.Method written function) at)) (if same symbol s.Colon then next i else i)
+
+  pub under-at : (written : PropertyKey) (at : ℕ) (t : Token) (ts : List Token) (ns : Nodes) (symbol : Symbol) (broken : Bool) → of_kind t.kind ≡ symbol → t.broken ≡ broken
+      → told (under_by written at symbol (t ∷ ts, ns)) ≡ at_kind depth (numbered symbol broken) behind_key (t ∷ ts) (built (mk.member_under_by (parts_at depth) symbol written at) ns)
+  unfolding at_kind tables same next add guided
+  under-at written at t ts ns s.Colon false e f = step (assign-sim depth h true) ts ns _ _ (λ a rest. refl)
+  under-at written at t ts ns s.Colon true e f = step (assign-sim depth h true) ts ns _ _ (λ a rest. refl)
+  under-at written at t ts ns x false e f = step h.method_part (t ∷ ts) ns _ (built (mk.member_under_by (parts_at depth) x written at) ns) (λ a rest. refl)
+      ∙ kind-at depth x false (call 21) t ts (built (mk.member_under_by (parts_at depth) x written at) ns) e f
+  under-at written at t ts ns x true e f = step h.method_part (t ∷ ts) ns _ (built (mk.member_under_by (parts_at depth) x written at) ns) (λ a rest. refl)
+      ∙ kind-at depth x true (call 21) t ts (built (mk.member_under_by (parts_at depth) x written at) ns) e f
+
+  pub method-end : (written : PropertyKey) (at : ℕ) (ns : Nodes) → told (under_by written at s.End ([], ns)) ≡ None
+  unfolding same vacant
+  method-end written at ns = none-first (g.body_of (part_at depth) parts.Method ([], ns)) _ (h.method_part.holds [] ns ∙ none-at_end depth (call 21) refl _)
+
+  pub under-sim : (written : PropertyKey) (at : ℕ) → Sim depth (g.member_under (part_at depth) written at) behind_key (mk.member_under (parts_at depth) written at)
+  unfolding g.member_under mk.member_under sees symbol after vacant
+  under-sim written at = sim-by depth (under_by written at) (λ symbol. mk.member_under_by (parts_at depth) symbol written at) behind_key refl (method-end written at) (under-at written at)
+
+  abbrev pub begins_under : Symbol → Bool
+  begins_under s.Colon = true
+  begins_under s.OpenParen = true
+  begins_under _ = false
+
+  pub under-agrees : (symbol : Symbol) (broken : Bool) → begins_under symbol ≡ among (firsts language.heads behind_key) (numbered symbol broken)
+  unfolding tables
+  under-agrees s.Colon false = refl
+  under-agrees s.Colon true = refl
+  under-agrees _ false = refl
+  under-agrees _ true = refl
+
+  abbrev pub named_by : List ℕ → ℕ → Symbol → Parser NodeId
+  named_by text at s.Colon = g.member_under (part_at depth) (pkey.Written text) at
+  named_by text at s.OpenParen = g.member_under (part_at depth) (pkey.Written text) at
+  named_by text at _ = g.shorthand (part_at depth) text at
+
+  pub named-is : (text : List ℕ) (at : ℕ) (symbol : Symbol) (i : Input) → told (named_by text at symbol i) ≡ (if begins_under symbol then told (g.member_under (part_at depth) (pkey.Written text) at i) else told (g.shorthand (part_at depth) text at i))
+  named-is text at s.Colon i = refl
+  named-is text at s.OpenParen i = refl
+  named-is text at _ i = refl
+
+  pub named-under : (text : List ℕ) (at : ℕ) (t : Token) (ts : List Token) (ns : Nodes) → told (g.member_under (part_at depth) (pkey.Written text) at (t ∷ ts, ns))
+      ≡ guided language ahead (rule depth) behind_key (t ∷ ts) (built (mk.named_member (parts_at depth) text at) ns)
+  unfolding mk.named_member vacant
+  named-under text at t ts ns = step-same+ (under-sim (pkey.Written text) at) (t ∷ ts) ns _ (λ a rest e.
+      let f = read-front language ahead depth each-takes behind_key refl (t ∷ ts) rest a e in
+      let front : first_token a ≡ Some f.0 = f.3 in rw front refl)
+
+  pub named-holds : (text : List ℕ) (at : ℕ) (ts : List Token) (ns : Nodes) → told (g.named_member (part_at depth) text at (ts, ns)) ≡ guided language ahead (rule depth) (optional behind_key) ts (built (mk.named_member (parts_at depth) text at) ns)
+  unfolding g.named_member g.shorthand mk.named_member mk.shorthand guided symbol token_kind first_token add
+  named-holds text at [] ns = refl
+  named-holds text at (t ∷ ts) ns = named-is text at (of_kind t.kind) (t ∷ ts, ns)
+      ∙ ap (λ b. if b then told (g.member_under (part_at depth) (pkey.Written text) at (t ∷ ts, ns)) else told (g.shorthand (part_at depth) text at (t ∷ ts, ns))) (under-agrees (of_kind t.kind) t.broken)
+      ∙ if-alike (among (firsts language.heads behind_key) (token_kind t)) _ (told (g.shorthand (part_at depth) text at (t ∷ ts, ns))) _ (built (mk.named_member (parts_at depth) text at) ns tip (t ∷ ts))
+      (named-under text at t ts ns) refl
+
+  pub named-sim : (text : List ℕ) (at : ℕ) → Sim depth (g.named_member (part_at depth) text at) (optional behind_key) (mk.named_member (parts_at depth) text at)
+  named-sim text at = record { holds = named-holds text at }
+
+  -- ---- behind `get` and `set`
+
+  pub begins-agrees : (symbol : Symbol) (broken : Bool) → begins_key symbol ≡ among (firsts language.heads key) (numbered symbol broken)
+  unfolding tables
+  begins-agrees s.Text false = refl
+  begins-agrees s.Text true = refl
+  begins-agrees _ false = refl
+  begins-agrees _ true = refl
+
+  abbrev pub accessor_x : Rule → Rule
+  accessor_x x = both key x
+
+  abbrev pub accessor_js : Part → (PropertyKey → Function → Node) → List ℕ → ℕ → Bool → Parser NodeId
+  accessor_js how make text at true = g.property_key (part_at depth) >>= λ written. g.body_of (part_at depth) how >>= λ function. add (make written function) at
+  accessor_js how make text at false = g.named_member (part_at depth) text at
+
+  pub begun-key : (x : Rule) (ts : List Token) (ns : Nodes) → g.starts_key (symbol (ts, ns)) ≡ starts language (among (firsts language.heads (both key x))) ts
+  unfolding g.starts_key symbol token_kind firsts nullable
+  begun-key x [] ns = refl
+  begun-key x (t ∷ ts) ns = begins-agrees (of_kind t.kind) t.broken ∙ ap (λ f. among f (token_kind t)) (sym (append-nil (firsts language.heads key)))
+
+  pub key-first : (x : Rule) → vacant (both key x) ≡ false
+  unfolding vacant
+  key-first x = refl
+
+  pub accessor-true : (how : Part) (make : PropertyKey → Function → Node) (x : Rule) (text : List ℕ) (at : ℕ) → Sim depth (g.body_of (part_at depth) how) x ((parts_at depth).function_in how)
+      → (ts : List Token) (ns : Nodes) → told (accessor_js how make text at true (ts, ns)) ≡ guided language ahead (rule depth) (both key x) ts (built (λ tree. mk.accessor_if (parts_at depth) true how make text at tree) ns)
+  unfolding guided add
+  accessor-true how make x text at sim ts ns = step key-sim ts ns _ _ (λ a m. step sim m _ _ _ (λ b rest. refl))
+
+  pub not-key : (ts rest : List Token) (tree : Tree Token) (ns : Nodes) → g.starts_key (symbol (ts, ns)) ≡ false → guided language ahead (rule depth) (optional behind_key) ts done ≡ Some (tree, rest)
+      → begins_key (symbol_in tree) ≡ false
+  unfolding g.starts_key symbol first_token
+  not-key ts rest tree ns e w = elim (read-maybe language ahead depth each-takes (optional behind_key) ts rest tree w) [
+    | inl n ↦ ap (λ o. begins_key (mk.symbol_of_first o)) n
+    | inr f ↦ ap (λ o. begins_key (mk.symbol_of_first o)) f.3 ∙ ap (λ ts. begins_key (symbol (ts, ns))) (sym f.2) ∙ e
+  ]
+
+  pub accessor-step : (how : Part) (make : PropertyKey → Function → Node) (x : Rule) (text : List ℕ) (at : ℕ) → Sim depth (g.body_of (part_at depth) how) x ((parts_at depth).function_in how)
+      → (b : Bool) (ts : List Token) (ns : Nodes) → g.starts_key (symbol (ts, ns)) ≡ b
+      → told (accessor_js how make text at b (ts, ns)) ≡ (if b then guided language ahead (rule depth) (both key x) ts (built (λ tree. mk.accessor_if (parts_at depth) (begins_key (symbol_in tree)) how make text at tree) ns)
+      else guided language ahead (rule depth) (optional behind_key) ts (built (λ tree. mk.accessor_if (parts_at depth) (begins_key (symbol_in tree)) how make text at tree) ns))
+  unfolding add g.starts_key symbol
+  accessor-step how make x text at sim true ts ns e = accessor-true how make x text at sim ts ns ∙ goes-so depth (both key x) ts _ _ (λ tree rest w.
+      let f = read-front language ahead depth each-takes (both key x) (key-first x) ts rest tree w in
+      let z : begins_key (symbol_in tree) ≡ true = ap (λ o. begins_key (mk.symbol_of_first o)) f.3 ∙ ap (λ ts. begins_key (symbol (ts, ns))) (sym f.2) ∙ e in
+      ap (λ b. built (λ tree. mk.accessor_if (parts_at depth) b how make text at tree) ns tree rest) (sym z))
+  accessor-step how make x text at sim false ts ns e = named-holds text at ts ns ∙ goes-so depth (optional behind_key) ts _ _ (λ tree rest w.
+      ap (λ b. built (λ tree. mk.accessor_if (parts_at depth) b how make text at tree) ns tree rest) (sym (not-key ts rest tree ns e w)))
+
+  pub accessor-sim : (how : Part) (make : PropertyKey → Function → Node) (x : Rule) (text : List ℕ) (at : ℕ) → Sim depth (g.body_of (part_at depth) how) x ((parts_at depth).function_in how)
+      → (ts : List Token) (ns : Nodes) → told (accessor_js how make text at (g.starts_key (symbol (ts, ns))) (ts, ns))
+      ≡ guided language ahead (rule depth) (either (both key x) (optional behind_key)) ts (built (λ tree. mk.accessor_if (parts_at depth) (begins_key (symbol_in tree)) how make text at tree) ns)
+  unfolding guided
+  accessor-sim how make x text at sim ts ns = accessor-step how make x text at sim (g.starts_key (symbol (ts, ns))) ts ns refl
+      ∙ ap (λ b. if b then guided language ahead (rule depth) (both key x) ts (built (λ tree. mk.accessor_if (parts_at depth) (begins_key (symbol_in tree)) how make text at tree) ns)
+      else guided language ahead (rule depth) (optional behind_key) ts (built (λ tree. mk.accessor_if (parts_at depth) (begins_key (symbol_in tree)) how make text at tree) ns)) (begun-key x ts ns)
