@@ -185,3 +185,84 @@ module _ (depth : ℕ) (h : Parted depth) where
   accessor-sim how make x text at sim ts ns = accessor-step how make x text at sim (g.starts_key (symbol (ts, ns))) ts ns refl
       ∙ ap (λ b. if b then guided language ahead (rule depth) (both key x) ts (built (λ tree. mk.accessor_if (parts_at depth) (begins_key (symbol_in tree)) how make text at tree) ns)
       else guided language ahead (rule depth) (optional behind_key) ts (built (λ tree. mk.accessor_if (parts_at depth) (begins_key (symbol_in tree)) how make text at tree) ns)) (begun-key x ts ns)
+
+  -- ---- Prop
+
+  abbrev pub accessor_or : Part → (PropertyKey → Function → Node) → List ℕ → ℕ → Parser NodeId
+  accessor_or how make text at i = accessor_js how make text at (g.starts_key (symbol i)) i
+
+  abbrev pub member_by : ℕ → Symbol → Parser NodeId
+  member_by at s.Get = take_text >>= λ text. g.getter (part_at depth) text at
+  member_by at s.Set = take_text >>= λ text. g.setter (part_at depth) text at
+  member_by at s.Name = take_text >>= λ text. g.named_member (part_at depth) text at
+  member_by at s.Of = take_text >>= λ text. g.named_member (part_at depth) text at
+  member_by at _ = g.property_key (part_at depth) >>= λ written. g.member_under (part_at depth) written at
+
+  abbrev pub member_at : Symbol → Parser NodeId
+  member_at symbol i = member_by (place i) symbol i
+
+  pub keyed-step : (at : ℕ) (ts : List Token) (ns : Nodes) → told (and_then (g.property_key (part_at depth) (ts, ns)) (λ written. g.member_under (part_at depth) written at))
+      ≡ guided language ahead (rule depth) key ts (λ a m. guided language ahead (rule depth) behind_key m (λ b rest. let w = mk.after (mk.property_key (parts_at depth) a ns) (λ written. mk.member_under (parts_at depth) written at b) in Some (w.0, (rest, w.1))))
+  keyed-step at ts ns = step key-sim ts ns _ _ (λ a m. step-same (under-sim _ at) m _ _ (λ b rest. refl))
+
+  abbrev pub keyed_k : ℕ → Nodes → Goes Token (NodeId × Input)
+  keyed_k at ns a m = guided language ahead (rule depth) behind_key m (λ b rest. let w = mk.after (mk.property_key (parts_at depth) a ns) (λ written. mk.member_under (parts_at depth) written at b) in Some (w.0, (rest, w.1)))
+
+  pub getter-step : (t : Token) (ts : List Token) (ns : Nodes) → told (g.getter (part_at depth) (text_of t.kind) t.place (ts, ns))
+      ≡ guided language ahead (rule depth) (either (both key getter) (optional behind_key)) ts (λ b rest. built (mk.member_by (parts_at depth) s.Get t.place) ns (pair (leaf t) b) rest)
+  unfolding g.getter symbol first_token
+  getter-step t ts ns = accessor-sim parts.Getter (λ k f. made.Getter k f) (call 22) (text_of t.kind) t.place h.getter_part ts ns
+
+  pub setter-step : (t : Token) (ts : List Token) (ns : Nodes) → told (g.setter (part_at depth) (text_of t.kind) t.place (ts, ns))
+      ≡ guided language ahead (rule depth) (either (both key setter) (optional behind_key)) ts (λ b rest. built (mk.member_by (parts_at depth) s.Set t.place) ns (pair (leaf t) b) rest)
+  unfolding g.setter symbol first_token
+  setter-step t ts ns = accessor-sim parts.Setter (λ k f. made.Setter k f) (call 23) (text_of t.kind) t.place h.setter_part ts ns
+
+  pub named-step : (t : Token) (ts : List Token) (ns : Nodes) → told (g.named_member (part_at depth) (text_of t.kind) t.place (ts, ns))
+      ≡ guided language ahead (rule depth) (optional behind_key) ts (λ b rest. built (mk.member_by (parts_at depth) s.Name t.place) ns (pair (leaf t) b) rest)
+  unfolding first_token
+  named-step t ts ns = named-holds (text_of t.kind) t.place ts ns
+
+  pub member-at : (t : Token) (ts : List Token) (ns : Nodes) (symbol : Symbol) (broken : Bool) → of_kind t.kind ≡ symbol → t.broken ≡ broken
+      → told (member_at symbol (t ∷ ts, ns)) ≡ at_kind depth (numbered symbol broken) property (t ∷ ts) (built (mk.member_by (parts_at depth) symbol t.place) ns)
+  unfolding at_kind tables text_next next place
+  member-at t ts ns s.Get false e f = getter-step t ts ns
+  member-at t ts ns s.Get true e f = getter-step t ts ns
+  member-at t ts ns s.Set false e f = setter-step t ts ns
+  member-at t ts ns s.Set true e f = setter-step t ts ns
+  member-at t ts ns s.Name false e f = named-step t ts ns
+  member-at t ts ns s.Name true e f = named-step t ts ns
+  member-at t ts ns s.Of false e f = named-step t ts ns
+  member-at t ts ns s.Of true e f = named-step t ts ns
+  member-at t ts ns x false e f = keyed-step t.place (t ∷ ts) ns ∙ kind-at depth x false key t ts (keyed_k t.place ns) e f
+  member-at t ts ns x true e f = keyed-step t.place (t ∷ ts) ns ∙ kind-at depth x true key t ts (keyed_k t.place ns) e f
+
+  pub property-takes : vacant property ≡ false
+  unfolding vacant
+  property-takes = refl
+
+  pub key-end : (ns : Nodes) → told (member_at s.End ([], ns)) ≡ None
+  unfolding vacant
+  key-end ns = none-first (g.property_key (part_at depth) ([], ns)) _ (key-sim.holds [] ns ∙ none-at_end depth key refl _)
+
+  pub member-sim : Sim depth (g.member (part_at depth)) property (mk.member (parts_at depth))
+  unfolding g.member mk.member place symbol
+  member-sim = sim-by-at depth member_at (λ at symbol. mk.member_by (parts_at depth) symbol at) property property-takes key-end member-at
+
+  pub property-placed : InPlace language.rules property
+  unfolding InPlace rules entry
+  property-placed = ((tt, (((tt, tt), tt), (((tt, refl), tt), tt))), ((tt, (((tt, tt), tt), (((tt, refl), tt), tt))), (((tt, tt), ((tt, refl), tt)), (tt, (((tt, refl), tt), tt)))))
+
+  pub property-full : nullable property ≡ false
+  unfolding nullable
+  property-full = refl
+
+  pub property-parted : apart (kinds (mark (codes "}") ∷ [])) (firsts language.heads property) ≡ true
+  unfolding tables apart
+  property-parted = refl
+
+  pub object-sim : Sim depth (g.object (part_at depth)) object_rule (mk.object (parts_at depth))
+  unfolding g.object g.members object_rule mk.object guided place add vacant
+  object-sim = sim-at depth (g.object (part_at depth)) (λ at tree ns. mk.after (mk.listed (mk.member (parts_at depth)) (first (second tree)) ns) (λ found. mk.added (made.ObjectLit found) at)) object_rule refl
+      (λ ts ns. step-expect only-open_brace ts ns _ _ (λ t m.
+      step (listed-sim depth member-sim property-takes property-placed property-full only-close_brace property-parted) m _ _ _ (λ a rest. refl)))
