@@ -19,4 +19,6 @@ pub mod Membered
 pub mod Declared
 pub mod Stated
 pub mod Headed
+pub mod Nested
+pub mod Whole
 pub mod Rows

@@ -21,13 +21,10 @@ use Rattle.js_parse.specs.declared.fault.Fault.TheVariants as fault
 use Rattle.js_parse.specs.Symbols.{same, of_kind, is_name, is_any_name}
 use Rattle.js_parse.specs.Input.{Input, Outcome, Parser, and_then, or_later, later, expect, sees, after, next, refusal, symbol, symbol as symbol_named, is_arrow_ahead, is_arrow_next, arrow, is_arrow, ◌>>=◌, peek, here, place, place_at, name as a_name, any_name, text_of, text, take_text, refuse, fork as fork_of}
 use Rattle.parse_laws.specs.Kinds.{token_kind, numbered}
+pub use Rattle.parse_laws.specs.Agreement.{language}
 use Rattle.parse_laws.specs.Trees.{Build, first_token, symbol_in, symbol_of_first, place_in, place_of_first, one_of, Parts, parts_at}
 use Rattle.parse_laws.proofs.Guided.{Was, Goes, done, called, taking, many_of, guided, rule_at, some_same, called_some, was, many-continues, guided-continues}
 use Rattle.parse_laws.proofs.Sound.{vacant, guided-finds, rule-finds, read-front, read-shorter}
-
--- the grammar of scripts over tokens of those kinds
-abbrev pub language : Language Token
-language = record { kind = token_kind; rules = entry (token []) rules; heads = entry [] heads }
 
 -- whether an arrow comes, rather than another expression
 unfoldable pub ahead : List Token → Bool
