@@ -1,30 +1,29 @@
 -- Arrows, and expressions with commas.
-use Rattle.std.proofs.Common.{inl, inr, true, false, Bool, ◌⊎◌, ◌≡◌, ℕ, zero, suc, List, [], ◌∷◌, ◌++◌, length, refl, ap, sym, subst, ◌∙◌, codes}
-use Rattle.std.specs.Prelude.{Option, Some, None, Ok, Err, if◌then◌else◌}
+use Rattle.std.proofs.Common.{true, false, Bool, ◌≡◌, ℕ, zero, suc, List, [], ◌∷◌, length, refl, ap, sym, subst, ◌∙◌, codes}
+use Rattle.std.specs.Prelude.{Option, Some, Ok, Err, if◌then◌else◌}
 use Rattle.grammar.specs.Kinds.{among}
-use Rattle.grammar.specs.Reading.{firsts, nullable}
-use Rattle.grammar.specs.Grammar.{Tree, tip, leaf, pair, node, Grammar, both, either, call, empty, token, many, named, on, prefer, line, starts, entry}
+use Rattle.grammar.specs.Reading.{firsts}
+use Rattle.grammar.specs.Grammar.{Tree, tip, pair, node, both, either, token, line, starts, entry}
 use Rattle.js_token.specs.declared.token.Token.{Token}
 use Rattle.js_tree.specs.Nodes.{Nodes}
 use Rattle.js_tree.specs.declared.node.NodeId.{NodeId}
 use Rattle.js_tree.specs.declared.node.Node.TheVariants as made
 use Rattle.js_grammar.specs.Kinds.{kinds, mark}
-use Rattle.js_grammar.specs.Script.{Rule, rules, heads, any, always, optional, form, identifier, parameters, arrow_tail, cond_rule, assign_rule, expr_rule, short_rule, or_rule, and_rule, bit_or_rule, bit_xor_rule, bit_and_rule, equal_rule, rel_rule, shift_rule, add_rule, mul_rule, unary_rule, left_rule, primary_rule}
+use Rattle.js_grammar.specs.Script.{Rule, heads, any, always, form, identifier, parameters, arrow_tail, cond_rule, assign_rule, expr_rule, short_rule, or_rule, and_rule, bit_or_rule, bit_xor_rule, bit_and_rule, equal_rule, rel_rule, shift_rule, add_rule, mul_rule, unary_rule, left_rule, primary_rule}
 use Rattle.js_parse.specs.declared.symbol.Symbol.{Symbol}
 use Rattle.js_parse.specs.declared.symbol.Symbol.TheVariants as s
 use Rattle.js_parse.specs.declared.part.Part.TheVariants as parts
 use Rattle.js_parse.specs.declared.fault.Fault.TheVariants as fault
 use Rattle.js_parse.specs.Symbols.{of_kind, is_name, same}
-use Rattle.js_parse.specs.Input.{Parser, Outcome, Input, and_then, symbol, place, place_at, next, add, pure, expect, sees, after, or_later, is_arrow_ahead, is_arrow_next, ◌>>=◌, ◌>>◌, fork as fork_of}
+use Rattle.js_parse.specs.Input.{Parser, Outcome, Input, and_then, symbol, place, place_at, add, pure, sees, or_later, is_arrow_ahead, is_arrow_next, ◌>>=◌, fork as fork_of}
 use Rattle.js_parse.specs.Grammar as g
 use Rattle.js_parse.specs.Grammar.{function_of, one_parameter}
 use Rattle.js_parse.specs.Nesting.{part_at}
-use Rattle.parse_laws.specs.Kinds.{numbered, token_kind}
 use Rattle.parse_laws.specs.Trees as mk
 use Rattle.parse_laws.specs.Trees.{Parts, parts_at, place_in, place_of_first, symbol_in, symbol_of_first, first_token, first, second, under, Build}
-use Rattle.parse_laws.proofs.Guided.{guided, many_of, Goes, Was, done}
-use Rattle.parse_laws.proofs.Sound.{vacant, read-front}
-use Rattle.parse_laws.proofs.Walk.{language, ahead, rule, told, built, Sim, step, step+, step-same, step-same+, eat-or, on-true, on-false, at-first, each-takes, sees-starts, pair-front, tables}
+use Rattle.parse_laws.proofs.Guided.{guided, many_of, Goes, done}
+use Rattle.parse_laws.proofs.Sound.{vacant}
+use Rattle.parse_laws.proofs.Walk.{language, ahead, rule, told, built, Sim, step, step+, step-same, step-same+, eat-or, on-true, on-false, at-first, sees-starts, pair-front}
 use Rattle.parse_laws.proofs.Symbols.{only-comma, only-open_paren, is-open_paren}
 use Rattle.parse_laws.proofs.Parted.{Parted}
 use Rattle.parse_laws.proofs.Bindings.{bind_name-sim}
@@ -92,10 +91,10 @@ module _ (depth : ℕ) (h : Parted depth) (allow_in : Bool) where
   unfolding g.arrow_of_name guided mk.assign place first_token add mk.bind_name
   assign-name t ts ns e o =
       step+ (bind_name-sim depth) (t ∷ ts) ns _ (λ a m. guided language ahead (rule depth) (arrow_tail allow_in) m (λ b rest. assigned ns (pair a b) rest)) (λ a m w.
-          step (h.arrow_part allow_in) m _ _ _ (λ b rest.
-              let k = pair-front depth identifier name-takes t ts m a b w in
-              ap (λ at. ended (named_arrow at (pair a b) ns) rest) (sym k.1)
-              ∙ ap (λ f. ended (f ns) rest) (name-arrow (symbol_in (pair a b)) (pair a b) (ap (λ s. is_name s) k.0 ∙ e))))
+      step (h.arrow_part allow_in) m _ _ _ (λ b rest.
+      let k = pair-front depth identifier name-takes t ts m a b w in
+      ap (λ at. ended (named_arrow at (pair a b) ns) rest) (sym k.1)
+      ∙ ap (λ f. ended (f ns) rest) (name-arrow (symbol_in (pair a b)) (pair a b) (ap (λ s. is_name s) k.0 ∙ e))))
       ∙ on-false _ o refl
 
   pub assign-list : (t : Token) (ts : List Token) (ns : Nodes) → of_kind t.kind ≡ s.OpenParen → starts language (among (firsts {A = Token} language.heads parameters)) (t ∷ ts) ≡ true
@@ -103,10 +102,10 @@ module _ (depth : ℕ) (h : Parted depth) (allow_in : Bool) where
   unfolding g.arrow_of_list guided mk.assign place first_token add
   assign-list t ts ns e o =
       step+ h.parameters_part (t ∷ ts) ns _ (λ a m. guided language ahead (rule depth) (arrow_tail allow_in) m (λ b rest. assigned ns (pair a b) rest)) (λ a m w.
-          step (h.arrow_part allow_in) m _ _ _ (λ b rest.
-              let k = pair-front depth parameters call-takes t ts m a b w in
-              ap (λ at. ended (listed_arrow at (pair a b) ns) rest) (sym k.1)
-              ∙ ap (λ s. ended (mk.arrow_by (parts_at depth) s (pair a b) ns) rest) (sym (k.0 ∙ e))))
+      step (h.arrow_part allow_in) m _ _ _ (λ b rest.
+      let k = pair-front depth parameters call-takes t ts m a b w in
+      ap (λ at. ended (listed_arrow at (pair a b) ns) rest) (sym k.1)
+      ∙ ap (λ s. ended (mk.arrow_by (parts_at depth) s (pair a b) ns) rest) (sym (k.0 ∙ e))))
       ∙ on-true _ o refl
 
   -- ---- Assign
@@ -134,8 +133,10 @@ module _ (depth : ℕ) (h : Parted depth) (allow_in : Bool) where
 
   pub assign-sim : Sim depth (g.assign (part_at depth) allow_in) (assign_rule allow_in) (mk.assign (parts_at depth))
   unfolding g.assign g.parenthesized g.named assign_rule guided ahead sees symbol is_arrow_ahead is_arrow_next
-  assign-sim = record { holds = λ ts ns.
-    assign-by ts ns (sees s.OpenParen (ts, [])) (is_arrow_ahead (ts, [])) (is_name (symbol (ts, []))) (is_arrow_next (ts, [])) refl refl }
+  assign-sim = record {
+    holds = λ ts ns.
+        assign-by ts ns (sees s.OpenParen (ts, [])) (is_arrow_ahead (ts, [])) (is_name (symbol (ts, []))) (is_arrow_next (ts, [])) refl refl;
+  }
 
   -- ---- commas
 

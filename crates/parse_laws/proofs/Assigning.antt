@@ -1,9 +1,9 @@
 -- Assignments and expressions.
-use Rattle.std.proofs.Common.{inl, inr, true, false, Bool, ◌⊎◌, ◌≡◌, ℕ, zero, suc, List, [], ◌∷◌, ◌++◌, length, refl, ap, sym, subst, ◌∙◌, codes}
-use Rattle.std.specs.Prelude.{Option, Some, None, Ok, Err, if◌then◌else◌, ◌==◌, is_none, is_some}
-use Rattle.grammar.specs.Kinds.{among, apart}
+use Rattle.std.proofs.Common.{inl, inr, true, false, Bool, ◌⊎◌, ◌≡◌, ℕ, zero, suc, List, [], ◌∷◌, ◌++◌, refl, ap, sym, subst, ◌∙◌, codes}
+use Rattle.std.specs.Prelude.{Option, Some, None, if◌then◌else◌, ◌==◌, is_some}
+use Rattle.grammar.specs.Kinds.{among}
 use Rattle.grammar.specs.Reading.{firsts, nullable}
-use Rattle.grammar.specs.Grammar.{Tree, tip, leaf, pair, node, Grammar, both, either, call, empty, token, many, named, on, prefer, line, starts, entry, Derives, Spells}
+use Rattle.grammar.specs.Grammar.{Tree, tip, leaf, pair, node, both, either, call, empty, token, named, line, starts, entry, Derives, Spells}
 use Rattle.std.proofs.lemmas.List.{append-nil}
 use Rattle.grammar.proofs.Sets.{test_was, among-left}
 use Rattle.js_token.specs.declared.token.Token.{Token}
@@ -12,25 +12,24 @@ use Rattle.js_tree.specs.declared.node.NodeId.{NodeId}
 use Rattle.js_tree.specs.declared.node.Node.TheVariants as made
 use Rattle.js_tree.specs.declared.node.BinaryOperator.{BinaryOperator}
 use Rattle.js_grammar.specs.Kinds.{kinds, mark}
-use Rattle.js_grammar.specs.Script.{Rule, rules, heads, any, always, optional, reaches, form, unary_rule, mul_rule, add_rule, shift_rule, rel_rule, equal_rule, bit_and_rule, bit_xor_rule, bit_or_rule, and_rule, or_rule, short_rule, cond_rule, left_rule, primary_rule, prefixed_rule, assign_operators, right, branches, prefix_operators}
+use Rattle.js_grammar.specs.Script.{Rule, rules, heads, optional, reaches, form, unary_rule, mul_rule, add_rule, shift_rule, rel_rule, equal_rule, bit_and_rule, bit_xor_rule, bit_or_rule, and_rule, or_rule, short_rule, cond_rule, left_rule, primary_rule, prefixed_rule, right, branches, prefix_operators}
 use Rattle.js_parse.specs.declared.symbol.Symbol.{Symbol}
 use Rattle.js_parse.specs.declared.symbol.Symbol.TheVariants as s
 use Rattle.js_parse.specs.declared.part.Part.TheVariants as parts
 use Rattle.js_parse.specs.Symbols.{of_kind}
-use Rattle.js_parse.specs.Operators.{is_prefix, assign_operator, assign_node}
-use Rattle.js_parse.specs.Input.{Parser, Outcome, Input, and_then, symbol, place, place_at, next, add, pure, expect, sees, after, ◌>>=◌, ◌>>◌}
+use Rattle.js_parse.specs.Operators.{is_prefix, assign_operator}
+use Rattle.js_parse.specs.Input.{Parser, Input, and_then, symbol, next, add, pure, expect, ◌>>=◌, ◌>>◌}
 use Rattle.js_parse.specs.Grammar as g
 use Rattle.js_parse.specs.Nesting.{part_at}
 use Rattle.parse_laws.specs.Kinds.{numbered, token_kind}
 use Rattle.parse_laws.specs.Trees as mk
 use Rattle.parse_laws.specs.Trees.{Parts, parts_at, place_in, symbol_in, symbol_of_first, first_token, first, second, under, Build}
-use Rattle.parse_laws.proofs.Guided.{guided, many_of, Goes, Was, done, called, called_some, some_same, guided-continues, was, rule_at}
-use Rattle.parse_laws.proofs.Sound.{vacant, guided-finds, rule-finds, read-front}
-use Rattle.parse_laws.proofs.Walk.{on-true, language, ahead, rule, told, built, Sim, step, step+, step-at, step-same, step-expect, eat-step, eat-step+, starts-neither, if-alike, goes-so, at-first, each-takes, tables}
+use Rattle.parse_laws.proofs.Guided.{guided, Goes, done, called, called_some, some_same, guided-continues, was}
+use Rattle.parse_laws.proofs.Sound.{vacant, rule-finds, read-front}
+use Rattle.parse_laws.proofs.Walk.{on-true, language, ahead, rule, told, built, Sim, step, step+, step-at, step-expect, eat-step+, each-takes, tables}
 use Rattle.parse_laws.proofs.Symbols.{only-question, only-colon, is-question}
 use Rattle.parse_laws.proofs.Parted.{Parted}
 use Rattle.parse_laws.proofs.Expressions
-use Rattle.parse_laws.proofs.Operators
 use Rattle.parse_laws.proofs.Behind
 use Rattle.parse_laws.proofs.Behind.{left_node, assign_kinds}
 
@@ -122,14 +121,14 @@ module _ (depth : ℕ) where
             )
         | inr h ↦
             let k = called_some (guided language ahead (rule depth) left_rule ts done) (λ l mid. guided language ahead (rule depth) (optional (token Expressions.postfix_kinds_of)) mid (λ p rest. done (pair l p) rest))
-                (c, rest) (sym (guided-continues language ahead (rule depth) Trees left_rule ts _) ∙ h.1) in
+            (c, rest) (sym (guided-continues language ahead (rule depth) Trees left_rule ts _) ∙ h.1) in
             let f = read-front language ahead depth each-takes left_rule left-solid ts (k.0).1 (k.0).0 k.1 in
             let p = postfix-shape (k.0).1 (λ p. pair (k.0).0 p) (c, rest) k.2 in
             let n = left-node ts (k.0).1 (k.0).0 k.1 in
             let front : first_token (pair (k.0).0 p.0) ≡ Some f.0 = ap (λ o. mk.one_of o (first_token p.0)) f.3 in
             inr (
               ap (λ c. is_prefix (symbol_in c)) p.1 ∙ ap (λ o. is_prefix (symbol_of_first o)) front ∙ sym (starts-prefix f.0 f.1)
-              ∙ ap (λ ts. starts language (among (firsts {A = Token} language.heads (call 12))) ts) (sym f.2) ∙ h.0,
+                  ∙ ap (λ ts. starts language (among (firsts {A = Token} language.heads (call 12))) ts) (sym f.2) ∙ h.0,
               ap (λ c. reaches left_node (node 30 c)) p.1 ∙ alone-left (k.0).0 p.0 n.0 n.1 p.2 ∙ ap (λ c. Expressions.alone_by false c) (sym p.1),
             )
       ]
@@ -260,8 +259,8 @@ module _ (depth : ℕ) (h : Parted depth) (allow_in : Bool) where
   assigned-step at ns a (t ∷ m) o e q =
       let begins : starts language (among assign_kinds) (t ∷ m) ≡ true = sym (assign-starts (t ∷ m)) ∙ ap (λ o. is_some o) e in
       step (h.right_part allow_in) m _ _ _ (λ v rest.
-          ap (λ w. let u = mk.after w (λ left. mk.assigned (parts_at depth) (Some o) at left (pair (leaf t) v)) in Some (u.0, (rest, u.1))) (sym (Behind.short-built depth h allow_in at a ns))
-          ∙ ap (λ p. let u = mk.after (mk.short_at (parts_at depth) at (Behind.short_tower depth h allow_in a) ns) (λ left. mk.assigned (parts_at depth) p at left (pair (leaf t) v)) in Some (u.0, (rest, u.1))) (sym e))
+      ap (λ w. let u = mk.after w (λ left. mk.assigned (parts_at depth) (Some o) at left (pair (leaf t) v)) in Some (u.0, (rest, u.1))) (sym (Behind.short-built depth h allow_in at a ns))
+      ∙ ap (λ p. let u = mk.after (mk.short_at (parts_at depth) at (Behind.short_tower depth h allow_in a) ns) (λ left. mk.assigned (parts_at depth) p at left (pair (leaf t) v)) in Some (u.0, (rest, u.1))) (sym e))
       ∙ begun at ns a t m begins ∙ reached-first at ns a (t ∷ m) q ∙ sym (Behind.short-stops depth h allow_in (NodeId × Input) a (t ∷ m) (cond_end at ns) begins)
 
   pub no-assign : (at : ℕ) (ns : Nodes) (a : Tree Token) (m : List Token) → (reaches left_node a ≡ true → starts language (among assign_kinds) m ≡ false)
@@ -294,5 +293,7 @@ module _ (depth : ℕ) (h : Parted depth) (allow_in : Bool) where
 
   pub operand_first-sim : (at : ℕ) → Sim depth (operand_first at) (cond_rule allow_in) (mk.conditional_at (parts_at depth) at)
   unfolding cond_rule short_rule or_rule and_rule bit_or_rule bit_xor_rule bit_and_rule equal_rule rel_rule shift_rule add_rule mul_rule guided mk.unary symbol
-  operand_first-sim at = record { holds = λ ts ns. step+ (Expressions.unary-sim depth h) ts ns _
-    (λ a m. Behind.rest-short depth h allow_in (NodeId × Input) a m (cond_end at ns)) (λ a m e. operand-behind at ns a m (Expressions.alone_by (is_prefix (symbol_in a)) (under a)) (unary-alone depth ts m a e)) }
+  operand_first-sim at = record {
+    holds = λ ts ns. step+ (Expressions.unary-sim depth h) ts ns _
+        (λ a m. Behind.rest-short depth h allow_in (NodeId × Input) a m (cond_end at ns)) (λ a m e. operand-behind at ns a m (Expressions.alone_by (is_prefix (symbol_in a)) (under a)) (unary-alone depth ts m a e));
+  }

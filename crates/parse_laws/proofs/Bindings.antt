@@ -1,7 +1,7 @@
 -- Bindings.
-use Rattle.std.proofs.Common.{true, false, Bool, ◌≡◌, ℕ, suc, List, [], ◌∷◌, ◌++◌, length, refl, ap, sym, ◌∙◌, codes}
-use Rattle.std.specs.Prelude.{Option, Some, None, if◌then◌else◌}
-use Rattle.grammar.specs.Grammar.{Tree, tip, leaf, pair, node, Grammar, both, either, call, empty}
+use Rattle.std.proofs.Common.{true, false, Bool, ◌≡◌, ℕ, List, ◌∷◌, refl, ◌∙◌}
+use Rattle.std.specs.Prelude.{Some, None, if◌then◌else◌}
+use Rattle.grammar.specs.Grammar.{empty}
 use Rattle.js_token.specs.declared.token.Token.{Token}
 use Rattle.js_tree.specs.Nodes.{Nodes}
 use Rattle.js_tree.specs.declared.node.Node.TheVariants as made
@@ -20,7 +20,7 @@ use Rattle.parse_laws.specs.Kinds.{numbered}
 use Rattle.parse_laws.specs.Trees as mk
 use Rattle.parse_laws.specs.Trees.{first_token, Parts, parts_at}
 use Rattle.parse_laws.proofs.Guided.{guided}
-use Rattle.parse_laws.proofs.Walk.{language, ahead, rule, told, built, Sim, step, step+, eat-step, at_kind, kind-at, sim-by, tables}
+use Rattle.parse_laws.proofs.Walk.{told, built, Sim, step, eat-step, at_kind, kind-at, sim-by, tables}
 use Rattle.parse_laws.proofs.Symbols.{only-assign}
 use Rattle.parse_laws.proofs.Parted.{Parted}
 
@@ -62,9 +62,11 @@ module _ (depth : ℕ) (h : Parted depth) where
 
   pub default-sim : Sim depth (g.default_value (part_at depth)) default (mk.default_value (parts_at depth))
   unfolding g.default_value mk.default_value guided first_token
-  default-sim = record { holds = λ ts ns.
-    eat-step depth only-assign ts ns (λ given. if given then Some <$> g.node_of (part_at depth) (parts.Right true) else pure None) (right true) empty (built (mk.default_value (parts_at depth)) ns)
-    (λ t rest. step (h.right_part true) rest ns _ _ (λ tree end. refl)) refl }
+  default-sim = record {
+    holds = λ ts ns.
+        eat-step depth only-assign ts ns (λ given. if given then Some <$> g.node_of (part_at depth) (parts.Right true) else pure None) (right true) empty (built (mk.default_value (parts_at depth)) ns)
+        (λ t rest. step (h.right_part true) rest ns _ _ (λ tree end. refl)) refl;
+  }
 
   pub element-sim : Sim depth (g.bind_element (part_at depth)) parameter (mk.bind_element (parts_at depth))
   unfolding g.bind_element mk.bind_element guided

@@ -1,33 +1,33 @@
 -- What stands in brackets.
-use Rattle.std.proofs.Common.{inl, inr, true, false, Bool, ◌⊎◌, ◌≡◌, ℕ, zero, suc, List, [], ◌∷◌, ◌++◌, length, refl, ap, sym, subst, ◌∙◌, codes}
-use Rattle.std.specs.Prelude.{Option, Some, None, Ok, Err, is_none, if◌then◌else◌}
+use Rattle.std.proofs.Common.{true, false, Bool, ◌≡◌, ℕ, List, [], ◌∷◌, refl, ap, sym, ◌∙◌, codes}
+use Rattle.std.specs.Prelude.{Option, Some, None, is_none, if◌then◌else◌}
 use Rattle.grammar.specs.Kinds.{among, apart}
 use Rattle.grammar.specs.Reading.{firsts, nullable}
 use Rattle.grammar.specs.Tests.{InPlace}
-use Rattle.grammar.specs.Grammar.{Tree, tip, leaf, pair, node, Grammar, both, either, call, empty, token, many, named, on, prefer, line, starts, entry}
+use Rattle.grammar.specs.Grammar.{Tree, tip, both, either, call, prefer, line, starts, entry}
 use Rattle.js_token.specs.declared.token.Token.{Token}
 use Rattle.js_tree.specs.Nodes.{Nodes}
 use Rattle.js_tree.specs.declared.node.NodeId.{NodeId}
 use Rattle.js_tree.specs.declared.node.Node.{Node}
 use Rattle.js_tree.specs.declared.node.Node.TheVariants as made
 use Rattle.js_grammar.specs.Kinds.{kinds, mark}
-use Rattle.js_grammar.specs.Script.{Rule, rules, heads, any, always, optional, listed, element, assign_rule, group_rule, index_rule, computed_rule, array_rule, arguments_rule, arrow_rule, prefixed_rule, new_rule, member_rule, but_not, assign, expr}
+use Rattle.js_grammar.specs.Script.{Rule, rules, element, assign_rule, group_rule, index_rule, computed_rule, array_rule, arguments_rule, arrow_rule, prefixed_rule, new_rule, member_rule, but_not, assign}
 use Rattle.js_parse.specs.declared.symbol.Symbol.{Symbol}
 use Rattle.js_parse.specs.declared.symbol.Symbol.TheVariants as s
 use Rattle.js_parse.specs.declared.part.Part.TheVariants as parts
 use Rattle.js_parse.specs.Symbols.{of_kind, same}
-use Rattle.js_parse.specs.Operators.{is_prefix, prefix_node}
-use Rattle.js_parse.specs.Input.{refuse, Parser, Outcome, Input, and_then, symbol, place, place_at, next, add, pure, expect, sees, after, peek, ◌>>=◌, ◌>>◌}
+use Rattle.js_parse.specs.Operators.{prefix_node}
+use Rattle.js_parse.specs.Input.{refuse, Parser, Input, and_then, symbol, place, place_at, next, add, pure, sees, after, peek, ◌>>=◌}
 use Rattle.js_parse.specs.Grammar as g
 use Rattle.js_parse.specs.Nesting.{part_at}
-use Rattle.parse_laws.specs.Kinds.{numbered, token_kind}
+use Rattle.parse_laws.specs.Kinds.{numbered}
 use Rattle.parse_laws.specs.Trees as mk
 use Rattle.parse_laws.specs.Trees.{Parts, parts_at, place_in, symbol_in, first_token, first, second, under, Build}
-use Rattle.parse_laws.proofs.Guided.{guided, many_of, Goes, Was, done}
+use Rattle.parse_laws.proofs.Guided.{guided, Goes}
 use Rattle.parse_laws.proofs.Sound.{vacant, read-front}
-use Rattle.parse_laws.proofs.Walk.{language, ahead, rule, told, built, Sim, step, step+, step-same, step-same+, step-expect, step-expect+, expect-end, sim-by, sim-by-at, sim-at, step-arrow, each-takes, at_kind, kind-at, none-behind, on-true, on-false, pair-front, sees-starts, none-at_end, assoc, tables}
+use Rattle.parse_laws.proofs.Walk.{language, ahead, rule, told, built, Sim, step, step+, step-same, step-expect, sim-by, sim-by-at, sim-at, step-arrow, each-takes, at_kind, none-behind, sees-starts, none-at_end, assoc, tables}
 use Rattle.parse_laws.proofs.Symbols.{only-open_paren, only-close_paren, only-open_bracket, only-close_bracket, only-new}
-use Rattle.parse_laws.proofs.Loops.{listed-sim, none-first}
+use Rattle.parse_laws.proofs.Loops.{listed-sim}
 use Rattle.parse_laws.proofs.Parted.{Parted}
 use Rattle.parse_laws.proofs.Expressions
 use Rattle.parse_laws.proofs.Arrows.{assign-sim, assign-takes, expression-sim}
@@ -85,8 +85,10 @@ module _ (depth : ℕ) (h : Parted depth) where
 
   pub arguments-sim : Sim depth (g.arguments (part_at depth)) arguments_rule (mk.arguments (parts_at depth))
   unfolding g.arguments g.elements arguments_rule mk.arguments guided
-  arguments-sim = record { holds = λ ts ns. step-expect only-open_paren ts ns _ _ (λ t m.
-    step-same (listed-sim depth element-sim element-takes element-placed element-full only-close_paren elements-parted.0) m _ _ (λ a rest. refl)) }
+  arguments-sim = record {
+    holds = λ ts ns. step-expect only-open_paren ts ns _ _ (λ t m.
+        step-same (listed-sim depth element-sim element-takes element-placed element-full only-close_paren elements-parted.0) m _ _ (λ a rest. refl));
+  }
 
   pub array-sim : Sim depth (g.array (part_at depth)) array_rule (mk.array (parts_at depth))
   unfolding g.array g.elements array_rule mk.array guided place add vacant

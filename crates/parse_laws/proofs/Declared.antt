@@ -1,42 +1,33 @@
 -- Declarations.
-use Rattle.std.proofs.Common.{inl, inr, true, false, Bool, ◌⊎◌, ◌≡◌, ℕ, zero, suc, ◌≤◌, List, [], ◌∷◌, ◌++◌, length, refl, ap, sym, subst, ◌∙◌, codes, arith}
-use Rattle.std.specs.Prelude.{Option, Some, None, Ok, Err, if◌then◌else◌, not, ◌||◌, is_none}
-use Rattle.grammar.specs.Kinds.{among, apart}
-use Rattle.grammar.specs.Reading.{firsts, nullable}
+use Rattle.std.proofs.Common.{true, false, Bool, ◌≡◌, ℕ, List, [], ◌∷◌, length, refl, ◌∙◌, codes}
+use Rattle.std.specs.Prelude.{Option, Some, None, if◌then◌else◌, not}
+use Rattle.grammar.specs.Reading.{nullable}
 use Rattle.grammar.specs.Tests.{InPlace}
-use Rattle.grammar.specs.Grammar.{Tree, tip, leaf, pair, node, Grammar, both, either, call, empty, token, many, named, on, prefer, line, starts, entry}
+use Rattle.grammar.specs.Grammar.{leaf, pair, both, empty, token, entry}
 use Rattle.js_token.specs.declared.token.Token.{Token}
 use Rattle.js_tree.specs.Nodes.{Nodes}
 use Rattle.js_tree.specs.declared.node.NodeId.{NodeId}
-use Rattle.js_tree.specs.declared.node.Node.{Node}
-use Rattle.js_tree.specs.declared.node.Node.TheVariants as made
 use Rattle.js_tree.specs.declared.node.Declarator.{Declarator}
-use Rattle.js_grammar.specs.Kinds.{kinds, mark, word, end}
-use Rattle.js_grammar.specs.Script.{Rule, rules, heads, any, always, optional, commas, identifier, pattern, bind, let_binding, const_binding, declaration, assign, assign_rule, expr, expr_rule, stmt_rule, item_rule, block_rule, stmt, item, unbroken, loop_rest}
-use Rattle.js_grammar.specs.Script as rule_of
+use Rattle.js_grammar.specs.Kinds.{kinds, mark}
+use Rattle.js_grammar.specs.Script.{Rule, rules, any, optional, bind, let_binding, const_binding, assign}
 use Rattle.js_parse.specs.declared.symbol.Symbol.{Symbol}
 use Rattle.js_parse.specs.declared.symbol.Symbol.TheVariants as s
-use Rattle.js_parse.specs.declared.part.Part.{Part}
-use Rattle.js_parse.specs.declared.part.Part.TheVariants as parts
-use Rattle.js_parse.specs.declared.part.Found.{Found}
-use Rattle.js_parse.specs.declared.part.Head.{Head}
-use Rattle.js_parse.specs.declared.part.Head.TheVariants as head
-use Rattle.js_parse.specs.Symbols.{of_kind, same, is_name}
-use Rattle.js_parse.specs.Input.{Parser, Outcome, Input, and_then, symbol, place, place_at, next, add, pure, refuse, refusal, expect, sees, after, peek, here, take_token, leaf as leaf_of, is_broken, broken_at, ◌>>=◌, ◌>>◌, ◌<$>◌}
+use Rattle.js_parse.specs.Symbols.{of_kind, is_name}
+use Rattle.js_parse.specs.Input.{Parser, and_then, symbol, pure, refuse, ◌<$>◌}
 use Rattle.js_parse.specs.Grammar as g
 use Rattle.js_parse.specs.Statements as st
 use Rattle.js_parse.specs.Nesting.{part_at}
-use Rattle.parse_laws.specs.Kinds.{numbered, token_kind}
+use Rattle.parse_laws.specs.Kinds.{numbered}
 use Rattle.parse_laws.specs.Trees as mk
 use Rattle.parse_laws.specs.Trees.{Parts, parts_at, place_in, symbol_in, first_token, first, second, under, Build}
-use Rattle.parse_laws.proofs.Guided.{guided, many_of, Goes, Was, done}
-use Rattle.parse_laws.proofs.Sound.{vacant, read-front}
-use Rattle.parse_laws.proofs.Walk.{language, ahead, rule, told, built, Sim, step, step+, step-same, step-same+, step-expect, eat-step, eat-step+, eat-need, sim-by, sim-by-at, sim-at, at_kind, kind-at, dispatch, if-alike, sees-starts, goes-so, none-at_end, assoc, each-takes, pair-front, by-first, tables}
+use Rattle.parse_laws.proofs.Guided.{guided}
+use Rattle.parse_laws.proofs.Sound.{vacant}
+use Rattle.parse_laws.proofs.Walk.{language, ahead, rule, told, built, Sim, step, eat-step, eat-need, sim-by, at_kind, kind-at, none-at_end, tables}
 use Rattle.parse_laws.proofs.Symbols
-use Rattle.parse_laws.proofs.Loops.{commas-loop, items-loop, none-first}
+use Rattle.parse_laws.proofs.Loops.{commas-loop, none-first}
 use Rattle.parse_laws.proofs.Parted.{Parted}
 use Rattle.parse_laws.proofs.Bindings.{bind-sim}
-use Rattle.parse_laws.proofs.Arrows.{assign-sim, assign-takes, expression-sim, expr-takes}
+use Rattle.parse_laws.proofs.Arrows.{assign-sim}
 
 module _ (depth : ℕ) (h : Parted depth) where
   abbrev pub initial_x : Bool → Bool → Rule
@@ -57,10 +48,14 @@ module _ (depth : ℕ) (h : Parted depth) where
 
   pub initial-sim : (allow_in required : Bool) → Sim depth (st.initial (part_at depth) allow_in required) (initial_x allow_in required) (mk.initial (parts_at depth))
   unfolding st.initial
-  initial-sim allow_in true = record { holds = λ ts ns. eat-need depth Symbols.only-assign ts ns (initial_by allow_in true) (assign allow_in) (built (mk.initial (parts_at depth)) ns)
-    (λ t rest. present-assign allow_in ns t rest) refl }
-  initial-sim allow_in false = record { holds = λ ts ns. eat-step depth Symbols.only-assign ts ns (initial_by allow_in false) (assign allow_in) empty (built (mk.initial (parts_at depth)) ns)
-    (λ t rest. present-assign allow_in ns t rest) (absent-initial allow_in ns ts) }
+  initial-sim allow_in true = record {
+    holds = λ ts ns. eat-need depth Symbols.only-assign ts ns (initial_by allow_in true) (assign allow_in) (built (mk.initial (parts_at depth)) ns)
+        (λ t rest. present-assign allow_in ns t rest) refl;
+  }
+  initial-sim allow_in false = record {
+    holds = λ ts ns. eat-step depth Symbols.only-assign ts ns (initial_by allow_in false) (assign allow_in) empty (built (mk.initial (parts_at depth)) ns)
+        (λ t rest. present-assign allow_in ns t rest) (absent-initial allow_in ns ts);
+  }
 
   abbrev pub binding : Bool → Bool → Rule
   binding true allow_in = const_binding allow_in
@@ -113,6 +108,8 @@ module _ (depth : ℕ) (h : Parted depth) where
 
   pub declarators-sim : (constant allow_in : Bool) (one : Declarator) → Sim depth (st.declarators (part_at depth) constant allow_in one) (any (comma_binding constant allow_in)) (mk.declarators (parts_at depth) (one ∷ []))
   unfolding st.declarators st.declarators_from mk.declarators guided
-  declarators-sim constant allow_in one = record { holds = λ ts ns.
-    commas-loop depth (declarator-sim constant allow_in) (binding-takes constant allow_in) (binding-placed constant allow_in) (binding-full constant allow_in)
-    (st.declarators_from (part_at depth) constant allow_in) (λ found ts ns. refl) (λ n found ts ns. refl) (length ts) ts ns (one ∷ []) }
+  declarators-sim constant allow_in one = record {
+    holds = λ ts ns.
+        commas-loop depth (declarator-sim constant allow_in) (binding-takes constant allow_in) (binding-placed constant allow_in) (binding-full constant allow_in)
+        (st.declarators_from (part_at depth) constant allow_in) (λ found ts ns. refl) (λ n found ts ns. refl) (length ts) ts ns (one ∷ []);
+  }

@@ -1,37 +1,34 @@
 -- Expressions.
-use Rattle.std.proofs.Common.{true, false, Bool, ◌≡◌, ℕ, zero, suc, List, [], ◌∷◌, ◌++◌, length, refl, ap, sym, ◌∙◌, codes}
-use Rattle.std.specs.Prelude.{Option, Some, None, Ok, Err, if◌then◌else◌, is_none}
+use Rattle.std.proofs.Common.{true, false, Bool, ◌≡◌, ℕ, zero, suc, List, [], ◌∷◌, length, refl, ap, sym, ◌∙◌, codes}
+use Rattle.std.specs.Prelude.{Option, Some, None, if◌then◌else◌}
 use Rattle.grammar.specs.Kinds.{among}
 use Rattle.grammar.specs.Reading.{firsts}
-use Rattle.grammar.specs.Grammar.{Tree, tip, leaf, pair, node, Grammar, both, either, call, empty, token, many, prefer, line, starts, entry}
+use Rattle.grammar.specs.Grammar.{Tree, tip, pair, both, either, call, token, prefer, line, starts, entry}
 use Rattle.js_token.specs.declared.token.Token.{Token}
 use Rattle.js_tree.specs.Nodes.{Nodes}
 use Rattle.js_tree.specs.declared.node.Node.{Node}
 use Rattle.js_tree.specs.declared.node.Node.TheVariants as made
 use Rattle.js_tree.specs.declared.node.NodeId.{NodeId}
 use Rattle.js_grammar.specs.Kinds.{kinds, unbroken_kinds, mark}
-use Rattle.js_grammar.specs.Script.{Rule, heads, identifier, bind, default, right, parameter, any, always, optional, suffix, member_suffix, punctuator, primary_rule, member_rule, left_rule, unary_rule, expr_rule, assign_rule, commas, assign}
+use Rattle.js_grammar.specs.Script.{Rule, heads, any, always, optional, suffix, member_suffix, primary_rule, left_rule, unary_rule}
 use Rattle.js_parse.specs.declared.symbol.Symbol.{Symbol}
 use Rattle.js_parse.specs.declared.symbol.Symbol.TheVariants as s
 use Rattle.js_parse.specs.declared.part.Part.{Part}
 use Rattle.js_parse.specs.declared.part.Part.TheVariants as parts
 use Rattle.js_parse.specs.declared.part.Found.{Found}
-use Rattle.js_parse.specs.Symbols.{is_name, of_kind}
-use Rattle.js_parse.specs.Operators.{is_prefix, postfix_node, prefix_node}
-use Rattle.js_parse.specs.Input.{Parser, Outcome, Input, and_then, symbol, text, number, place, place_at, next, add, leaf as leaf_of, name, any_name, refusal, take_text, take_token, refuse, pure, peek, here, ◌<$>◌, ◌>>=◌, ◌>>◌, expect, eat, seen, sees, after, is_broken, broken_at}
+use Rattle.js_parse.specs.Symbols.{of_kind}
+use Rattle.js_parse.specs.Operators.{is_prefix, postfix_node}
+use Rattle.js_parse.specs.Input.{Parser, Input, and_then, symbol, text, number, place, place_at, next, add, leaf as leaf_of, any_name, refusal, take_token, refuse, pure, peek, ◌<$>◌, ◌>>=◌, ◌>>◌, is_broken}
 use Rattle.js_parse.specs.Grammar as g
 use Rattle.js_parse.specs.Nesting.{part_at}
-use Rattle.parse_laws.specs.Kinds.{numbered, token_kind}
+use Rattle.parse_laws.specs.Kinds.{numbered}
 use Rattle.parse_laws.specs.Trees as mk
 use Rattle.parse_laws.specs.Trees.{first_token, Parts, parts_at, place_in, symbol_in, first, second, under, Build}
 use Rattle.parse_laws.proofs.Guided.{guided, many_of, Goes, Was, called, done}
 use Rattle.parse_laws.proofs.Sound.{vacant}
-use Rattle.parse_laws.proofs.Walk.{language, ahead, rule, told, built, Sim, step, step+, step-same, step-shown, goes-so, starts-neither, behind-new, open_kinds, step-expect, eat-step, eat-or, at_kind, kind-at, sim-by, sim-by-at, dispatch, dispatch-or, step-any_name, step-name, at-first, by-first, none-at_end, none-behind, assoc, tables}
-use Rattle.parse_laws.proofs.Symbols
-use Rattle.parse_laws.proofs.Loops.{none-first, chain-sim}
-use Rattle.parse_laws.proofs.Levels
+use Rattle.parse_laws.proofs.Walk.{language, ahead, rule, told, built, Sim, step, step-same, step-shown, goes-so, starts-neither, behind-new, open_kinds, at_kind, sim-by, sim-by-at, dispatch, dispatch-or, step-any_name, at-first, none-at_end, assoc, tables}
+use Rattle.parse_laws.proofs.Loops.{none-first}
 use Rattle.parse_laws.proofs.Parted.{Parted}
-use Rattle.parse_laws.proofs.Bindings.{bind_name-sim}
 
 abbrev pub primary_by : (Part → Parser Found) → Symbol → Parser NodeId
 primary_by part s.Name = g.named_leaf
@@ -226,8 +223,10 @@ module _ (depth : ℕ) (h : Parted depth) where
 
   pub sided-sim : (calls : Bool) → Sim depth (λ i. and_then (g.primary (part_at depth) i) (g.suffixes (part_at depth) calls (place i))) (sided_rule calls) (mk.sided (parts_at depth))
   unfolding place mk.sided
-  sided-sim calls = record { holds = λ ts ns. sided-placed calls (place_at ts) ts ns
-      ∙ at-first depth (λ at tree. sided_built at (symbol_in tree) tree) (sided_rule calls) (sided-takes calls) ts ns }
+  sided-sim calls = record {
+    holds = λ ts ns. sided-placed calls (place_at ts) ts ns
+        ∙ at-first depth (λ at tree. sided_built at (symbol_in tree) tree) (sided_rule calls) (sided-takes calls) ts ns;
+  }
 
   pub left-takes : vacant left_rule ≡ false
   unfolding left_rule primary_rule vacant
@@ -319,4 +318,3 @@ module _ (depth : ℕ) (h : Parted depth) where
   pub unary-sim : Sim depth (g.unary (part_at depth)) unary_rule (λ tree. unary_built (place_in tree) (symbol_in tree) tree)
   unfolding g.unary
   unary-sim = sim-by-at depth (λ symbol. unary_by (is_prefix symbol)) unary_built unary_rule unary-takes postfix-end unary-at
-

@@ -1,8 +1,8 @@
 -- A reader by a grammar that goes on with what it read, and at a fork goes by what stands ahead.
-use Rattle.std.proofs.Common.{inl, inr, true, false, Bool, ◌⊎◌, ◌≡◌, ℕ, zero, suc, ◌+◌, ◌<◌, ◌≤◌, List, [], ◌∷◌, ◌++◌, length, refl, ap, sym, subst, ◌∙◌, arith}
+use Rattle.std.proofs.Common.{inl, inr, true, false, Bool, ◌⊎◌, ◌≡◌, ℕ, zero, suc, List, [], ◌∷◌, length, refl, ap, sym, ◌∙◌}
 use Rattle.std.specs.Prelude.{if◌then◌else◌, Option, Some, None}
 use Rattle.grammar.specs.Kinds.{among}
-use Rattle.grammar.specs.Grammar.{Tree, tip, leaf, pair, node, Grammar, empty, token, call, line, both, either, fork, many, named, prefer, starting, on, Language, Relation, Perhaps, Chain, starts, Spells, Derives}
+use Rattle.grammar.specs.Grammar.{Tree, tip, leaf, pair, node, Grammar, empty, token, call, line, both, either, fork, many, named, prefer, starting, on, Language, starts}
 use Rattle.grammar.specs.Reading.{firsts}
 
 abbrev pub Was : Type 0 → Type 0
@@ -95,9 +95,9 @@ module _ {A : Type 0} (l : Language A) where
   many-continues C test more g h c d zero ts k = refl
   many-continues C test more g h c d (suc n) ts k =
       if-called (starts l test ts) _ _ _ _ k (
-        goes-on g h c d ts _ _ k (λ a rest. if-called (more a) _ _ _ _ k
-            (goes-on (many_of l test more g n) (many_of l test more h n) (many-continues C test more g h c d n) (many-continues (Tree A × List A) test more h h d d n) rest
-            (λ b end. k (pair a b) end) (λ b end. done (pair a b) end) k (λ b end. refl)) refl)
+      goes-on g h c d ts _ _ k (λ a rest. if-called (more a) _ _ _ _ k
+      (goes-on (many_of l test more g n) (many_of l test more h n) (many-continues C test more g h c d n) (many-continues (Tree A × List A) test more h h d d n) rest
+      (λ b end. k (pair a b) end) (λ b end. done (pair a b) end) k (λ b end. refl)) refl)
       ) refl
 
   module _ (ahead : List A → Bool) (r : ℕ → List A → Was A) where

@@ -1,45 +1,38 @@
 -- The heads of loops.
-use Rattle.std.proofs.Common.{inl, inr, true, false, Bool, ◌⊎◌, ◌≡◌, ℕ, zero, suc, ◌≤◌, List, [], ◌∷◌, ◌++◌, length, refl, ap, sym, subst, ◌∙◌, codes, arith}
-use Rattle.std.specs.Prelude.{Option, Some, None, Ok, Err, if◌then◌else◌, not, ◌||◌, is_none}
+use Rattle.std.proofs.Common.{true, false, Bool, ◌≡◌, ℕ, List, [], ◌∷◌, refl, ap, sym, ◌∙◌, codes}
+use Rattle.std.specs.Prelude.{Option, Some, None, if◌then◌else◌, not, ◌||◌, is_none}
 use Rattle.grammar.specs.Kinds.{among, apart}
 use Rattle.grammar.proofs.Sets.{off-apart}
 use Rattle.grammar.specs.Reading.{firsts, nullable}
 use Rattle.grammar.specs.Tests.{InPlace}
-use Rattle.grammar.specs.Grammar.{Tree, tip, leaf, pair, node, Grammar, both, either, call, empty, token, many, named, on, prefer, line, starts, entry}
+use Rattle.grammar.specs.Grammar.{Tree, tip, leaf, pair, both, either, token, starts, entry}
 use Rattle.js_token.specs.declared.token.Token.{Token}
 use Rattle.js_tree.specs.Nodes.{Nodes}
 use Rattle.js_tree.specs.declared.node.NodeId.{NodeId}
-use Rattle.js_tree.specs.declared.node.Node.{Node}
-use Rattle.js_tree.specs.declared.node.Node.TheVariants as made
-use Rattle.js_tree.specs.declared.node.Declarator.{Declarator}
 use Rattle.js_grammar.specs.Kinds.{kinds, mark, word, end}
 use Rattle.js_grammar.specs.Script.{Rule, rules, heads, any, always, optional, commas, identifier, pattern, bind, let_binding, const_binding, declaration, assign, assign_rule, expr, expr_rule, stmt_rule, item_rule, block_rule, stmt, item, unbroken, loop_rest}
 use Rattle.js_grammar.specs.Script as rule_of
 use Rattle.js_parse.specs.declared.symbol.Symbol.{Symbol}
 use Rattle.js_parse.specs.declared.symbol.Symbol.TheVariants as s
-use Rattle.js_parse.specs.declared.part.Part.{Part}
-use Rattle.js_parse.specs.declared.part.Part.TheVariants as parts
-use Rattle.js_parse.specs.declared.part.Found.{Found}
 use Rattle.js_parse.specs.declared.part.Head.{Head}
-use Rattle.js_parse.specs.declared.part.Head.TheVariants as head
 use Rattle.js_parse.specs.Symbols.{of_kind, same, is_name}
-use Rattle.js_parse.specs.Input.{Parser, Outcome, Input, and_then, symbol, place, place_at, next, add, pure, refuse, refusal, expect, sees, after, peek, here, take_token, leaf as leaf_of, is_broken, broken_at, ◌>>=◌, ◌>>◌, ◌<$>◌}
+use Rattle.js_parse.specs.Input.{Parser, Input, and_then, symbol, place, next, add, pure, expect, sees, after, peek, ◌>>=◌, ◌<$>◌}
 use Rattle.js_parse.specs.Grammar as g
 use Rattle.js_parse.specs.Statements as st
 use Rattle.js_parse.specs.Nesting.{part_at}
 use Rattle.parse_laws.specs.Kinds.{numbered, token_kind}
 use Rattle.parse_laws.specs.Trees as mk
 use Rattle.parse_laws.specs.Trees.{Parts, parts_at, place_in, symbol_in, first_token, first, second, under, Build}
-use Rattle.parse_laws.proofs.Guided.{taking, guided, many_of, Goes, Was, done}
+use Rattle.parse_laws.proofs.Guided.{taking, guided, Goes, done}
 use Rattle.parse_laws.proofs.Sound.{vacant, read-front}
-use Rattle.parse_laws.proofs.Walk.{Only, not-begun, language, ahead, rule, told, built, Sim, step, step+, step-same, step-same+, step-expect, eat-or, eat-step, eat-step+, eat-need, sim-by, sim-by-at, sim-at, at_kind, at-kind, kind-at, dispatch, if-alike, sees-starts, goes-so, none-at_end, assoc, each-takes, pair-front, by-first, tables}
+use Rattle.parse_laws.proofs.Walk.{Only, not-begun, language, ahead, rule, told, built, Sim, step, step+, step-same, step-expect, eat-or, sim-by-at, at_kind, at-kind, kind-at, sees-starts, goes-so, none-at_end, assoc, each-takes, tables}
 use Rattle.parse_laws.proofs.Symbols
-use Rattle.parse_laws.proofs.Loops.{commas-loop, items-loop, none-first}
+use Rattle.parse_laws.proofs.Loops.{none-first}
 use Rattle.parse_laws.proofs.Parted.{Parted}
 use Rattle.parse_laws.proofs.Bindings.{bind-sim}
 use Rattle.parse_laws.proofs.Declared
 use Rattle.parse_laws.proofs.Declared.{declarator-sim, declarators-sim, binding, comma_binding, initial_x, initial-sim}
-use Rattle.parse_laws.proofs.Arrows.{assign-sim, assign-takes, expression-sim, expr-takes}
+use Rattle.parse_laws.proofs.Arrows.{assign-sim, expression-sim, expr-takes}
 
 pub true-by : (b : Bool) → (b ≡ false → ⊥) → b ≡ true
 true-by true f = refl
@@ -91,8 +84,10 @@ module _ (depth : ℕ) (h : Parted depth) where
   -- ";" [Expr] ";" [Expr] ")"
   pub loop-step : (start : Option NodeId) → Sim depth (st.loop_head (part_at depth) start) (both loop_rest (token shut)) (λ tree. mk.loop_head (parts_at depth) start (first tree))
   unfolding st.loop_head mk.loop_head guided
-  loop-step start = record { holds = λ ts ns. step-expect Symbols.only-semicolon ts ns _ _ (λ t m. optional-step Symbols.only-semicolon heads-parted.0 m _ _ _ (λ a u n.
-    optional-step Symbols.only-close_paren heads-parted.1 n _ _ _ (λ b v rest. refl))) }
+  loop-step start = record {
+    holds = λ ts ns. step-expect Symbols.only-semicolon ts ns _ _ (λ t m. optional-step Symbols.only-semicolon heads-parted.0 m _ _ _ (λ a u n.
+        optional-step Symbols.only-close_paren heads-parted.1 n _ _ _ (λ b v rest. refl)));
+  }
 
   abbrev pub of_x : Rule
   of_x = both (token (kinds (Rattle.js_grammar.specs.Kinds.name (codes "of") ∷ []))) (assign true)

@@ -1,5 +1,5 @@
 -- The operators of each level.
-use Rattle.std.proofs.Common.{true, false, Bool, ◌≡◌, ℕ, List, [], ◌∷◌, refl, codes}
+use Rattle.std.proofs.Common.{true, false, Bool, [], ◌∷◌, refl, codes}
 use Rattle.grammar.specs.Kinds.{among}
 use Rattle.js_grammar.specs.Kinds.{kinds, mark}
 use Rattle.js_grammar.specs.Script.{relational}
@@ -228,4 +228,3 @@ pub level-11 : (allow_in : Bool) → Level 11 allow_in (kinds (mark (codes "??")
 unfolding infix_at same
 level-11 true = record { joins = joins-11 true; no_end = refl }
 level-11 false = record { joins = joins-11 false; no_end = refl }
-

@@ -1,31 +1,29 @@
 -- Lists of what is read, one behind the other.
-use Rattle.std.proofs.Common.{inl, inr, true, false, Bool, ◌⊎◌, ◌≡◌, ℕ, zero, suc, ◌+◌, ◌<◌, ◌≤◌, List, [], ◌∷◌, ◌++◌, length, refl, ap, sym, ◌∙◌, arith, codes}
+use Rattle.std.proofs.Common.{true, false, Bool, ◌≡◌, ℕ, zero, suc, ◌≤◌, List, [], ◌∷◌, ◌++◌, length, refl, ap, sym, ◌∙◌, arith, codes}
 use Rattle.std.proofs.lemmas.List.{append-nil}
-use Rattle.std.specs.Prelude.{Option, Some, None, Ok, Err, if◌then◌else◌, is_none}
+use Rattle.std.specs.Prelude.{Option, Some, None, Ok, Err, if◌then◌else◌}
 use Rattle.grammar.specs.Kinds.{among, apart}
-use Rattle.grammar.specs.Grammar.{Tree, tip, leaf, pair, node, Grammar, token, both, either, many, empty, starts}
+use Rattle.grammar.specs.Grammar.{Tree, tip, leaf, pair, node, Grammar, token, both, many}
 use Rattle.grammar.specs.Reading.{firsts, nullable}
 use Rattle.grammar.specs.Tests.{InPlace}
-use Rattle.grammar.proofs.Sets.{is_or_not, apart-tells, false_by}
+use Rattle.grammar.proofs.Sets.{apart-tells}
 use Rattle.js_token.specs.declared.token.Token.{Token}
 use Rattle.js_tree.specs.Nodes.{Nodes}
-use Rattle.js_tree.specs.declared.node.Node.TheVariants as made
 use Rattle.js_tree.specs.declared.node.NodeId.{NodeId}
 use Rattle.js_grammar.specs.Kinds.{kinds, mark}
-use Rattle.js_grammar.specs.Script.{any, always, commas, punctuator, optional, has_member, listed}
+use Rattle.js_grammar.specs.Script.{any, always, optional, has_member, listed}
 use Rattle.js_parse.specs.declared.symbol.Symbol.{Symbol}
 use Rattle.js_parse.specs.declared.symbol.Symbol.TheVariants as s
 use Rattle.js_parse.specs.declared.operators.Infix.{Infix}
-use Rattle.js_parse.specs.Symbols.{of_kind, same}
-use Rattle.js_parse.specs.Operators.{infix_at, infix_of, infix_node}
-use Rattle.js_parse.specs.Input.{Input, Outcome, Parser, and_then, symbol, next, add, pure, refuse, refusal, ◌>>=◌, ◌>>◌, sees, seen, after, eat, expect, turns}
+use Rattle.js_parse.specs.Symbols.{of_kind}
+use Rattle.js_parse.specs.Operators.{infix_at, infix_of}
+use Rattle.js_parse.specs.Input.{Input, Outcome, Parser, and_then, symbol, next, add, pure, ◌>>=◌, ◌>>◌, sees, after, expect}
 use Rattle.js_parse.specs.Grammar as g
-use Rattle.js_parse.specs.Statements as st
 use Rattle.parse_laws.specs.Kinds.{numbered, token_kind}
 use Rattle.parse_laws.specs.Trees as mk
 use Rattle.parse_laws.specs.Trees.{Build, first_token, absent, first, second}
 use Rattle.parse_laws.proofs.Guided.{Goes, done, taking, guided, many_of}
-use Rattle.parse_laws.proofs.Sound.{vacant, read-front, read-shorter}
+use Rattle.parse_laws.proofs.Sound.{vacant, read-front}
 use Rattle.parse_laws.proofs.Walk.{language, ahead, rule, told, built, Sim, Only, step, step+, step-expect, eat-or, assoc, none-at_end, not-begun, each-takes}
 use Rattle.parse_laws.proofs.Symbols.{only-comma}
 
@@ -50,8 +48,8 @@ module _ (depth : ℕ) {read : Parser NodeId} {x : Grammar Token} {b : Tree Toke
   chain-loop {level} {allow_in} {kinds} known (suc n) (t ∷ ts) ns left =
       by (chain-loop known n) (infix_at level allow_in (of_kind t.kind)) (infix_of (of_kind t.kind)) (among kinds (token_kind t)) refl (known.joins (of_kind t.kind) t.broken)
       ∙ ap (λ f. if among f (token_kind t) then (if among kinds (token_kind t) then guided language ahead (rule depth) x ts (λ c rest.
-          many_of language (among (kinds ++ [])) always (guided language ahead (rule depth) (both (token kinds) x)) n rest
-          (λ d end. built (mk.chain b at left) ns (pair (pair (leaf t) c) d) end)) else None) else built (mk.chain b at left) ns tip (t ∷ ts)) (sym (append-nil kinds))
+      many_of language (among (kinds ++ [])) always (guided language ahead (rule depth) (both (token kinds) x)) n rest
+      (λ d end. built (mk.chain b at left) ns (pair (pair (leaf t) c) d) end)) else None) else built (mk.chain b at left) ns tip (t ∷ ts)) (sym (append-nil kinds))
     where
       by : ((rest : List Token) (ns : Nodes) (left : NodeId) → told (g.chain_from read level allow_in at n left (rest, ns))
           ≡ many_of language (among (kinds ++ [])) always (guided language ahead (rule depth) (both (token kinds) x)) n rest (built (mk.chain b at left) ns))
@@ -91,7 +89,6 @@ member-came c (node n a) t e = refl
 module _ (depth : ℕ) {A : Type 0} {item : Parser A} {x : Grammar Token} {b : Tree Token → Build A} (sim : Sim depth item x b) (takes : vacant x ≡ false)
     (placed : InPlace language.rules x) (full : nullable x ≡ false) {close : Symbol} {kinds : List ℕ} (only : Only close kinds)
     (parted : apart kinds (firsts language.heads x) ≡ true) where
-
   abbrev pub behind_comma : ℕ → List A → Bool → Parser (List A)
   behind_comma m found more = if more then g.listed_from item close m found else pure found
 
@@ -165,7 +162,7 @@ module _ (depth : ℕ) {A : Type 0} {item : Parser A} {x : Grammar Token} {b : T
       (λ a rest. if has_member a then rest_of n rest (λ d end. closed (mk.members_behind b found) ns (pair a d) end) else closed (mk.members_behind b found) ns (pair a tip) rest)
       (closed (mk.members_behind b found) ns tip ts)
       (λ t rest e w. let size : length ts ≡ suc (length rest) = ap (λ l. length l) e in
-          listed-next n m (members-loop n m) (leaf t) rest ns found (omega (arith, few, size)) (omega (arith, less, size)))
+      listed-next n m (members-loop n m) (leaf t) rest ns found (omega (arith, few, size)) (omega (arith, less, size)))
       (no-member (suc m) ts ns found)
 
   -- a list up to what closes it

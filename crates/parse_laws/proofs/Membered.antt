@@ -1,45 +1,41 @@
 -- Members of object literals.
-use Rattle.std.proofs.Common.{inl, inr, true, false, Bool, ◌⊎◌, ◌≡◌, ℕ, zero, suc, ◌≤◌, List, [], ◌∷◌, ◌++◌, length, refl, ap, sym, subst, ◌∙◌, codes, arith}
-use Rattle.std.specs.Prelude.{Option, Some, None, Ok, Err, if◌then◌else◌}
+use Rattle.std.proofs.Common.{inl, inr, true, false, Bool, ◌≡◌, ℕ, List, [], ◌∷◌, refl, ap, sym, ◌∙◌, codes}
+use Rattle.std.specs.Prelude.{Some, None, if◌then◌else◌}
 use Rattle.grammar.specs.Kinds.{among, apart}
 use Rattle.grammar.specs.Reading.{firsts, nullable}
 use Rattle.grammar.specs.Tests.{InPlace}
-use Rattle.grammar.specs.Grammar.{Tree, tip, leaf, pair, node, Grammar, both, either, call, empty, token, many, named, on, prefer, line, starts, entry}
+use Rattle.grammar.specs.Grammar.{Tree, tip, leaf, pair, both, either, call, starts, entry}
 use Rattle.std.proofs.lemmas.List.{append-nil}
 use Rattle.js_token.specs.declared.token.Token.{Token}
 use Rattle.js_tree.specs.Nodes.{Nodes}
 use Rattle.js_tree.specs.declared.node.NodeId.{NodeId}
 use Rattle.js_tree.specs.declared.node.Node.TheVariants as made
-use Rattle.js_tree.specs.declared.node.BindProperty.{BindProperty}
 use Rattle.js_tree.specs.declared.node.Function.{Function}
-use Rattle.js_grammar.specs.Kinds.{kinds, mark, word, names, reserved}
-use Rattle.js_grammar.specs.Script.{key, behind_key, property, object_rule, computed_key, method, getter, setter, assign, assign_rule, Rule, rules, heads, any, always, optional, listed, bind, default, identifier, parameter, pattern_member, pattern_rule, parameters_rule, no_parameters_rule, one_parameter_rule, function_rule, declared_rule, function_rest, any_name}
+use Rattle.js_grammar.specs.Kinds.{kinds, mark}
+use Rattle.js_grammar.specs.Script.{key, behind_key, property, object_rule, getter, setter, Rule, rules, optional}
 use Rattle.js_parse.specs.declared.symbol.Symbol.{Symbol}
 use Rattle.js_parse.specs.declared.symbol.Symbol.TheVariants as s
 use Rattle.js_parse.specs.declared.part.Part.{Part}
 use Rattle.js_parse.specs.declared.part.Part.TheVariants as parts
 use Rattle.js_parse.specs.declared.part.Found.{Found}
-use Rattle.js_parse.specs.declared.part.Parameters.{Parameters}
-use Rattle.js_parse.specs.Symbols.{of_kind, same, is_name, is_any_name}
-use Rattle.js_parse.specs.Input.{number, take_number, ◌<$>◌, Parser, Outcome, Input, and_then, symbol, text as text_next, any_name as any_name_next, text_of, place, place_at, next, add, pure, refuse, refusal, take_text, expect, sees, after, peek, here, ◌>>=◌, ◌>>◌}
+use Rattle.js_parse.specs.Symbols.{of_kind, same}
+use Rattle.js_parse.specs.Input.{number, take_number, ◌<$>◌, Parser, Input, and_then, symbol, text as text_next, any_name as any_name_next, text_of, place, next, add, take_text, sees, after, ◌>>=◌}
 use Rattle.js_parse.specs.Grammar as g
 use Rattle.js_parse.specs.Grammar.{number_key, begins_key}
 use Rattle.js_tree.specs.declared.node.PropertyKey.{PropertyKey}
 use Rattle.js_tree.specs.declared.node.PropertyKey.TheVariants as pkey
 use Rattle.js_tree.specs.declared.node.Node.{Node}
-use Rattle.js_parse.specs.Statements as st
 use Rattle.js_parse.specs.Nesting.{part_at}
 use Rattle.parse_laws.specs.Kinds.{numbered, token_kind}
 use Rattle.parse_laws.specs.Trees as mk
 use Rattle.parse_laws.specs.Trees.{Parts, parts_at, place_in, symbol_in, first_token, first, second, under, Build}
-use Rattle.parse_laws.proofs.Guided.{guided, many_of, Goes, Was, done}
+use Rattle.parse_laws.proofs.Guided.{guided, Goes, done}
 use Rattle.parse_laws.proofs.Sound.{vacant, read-front, read-maybe}
-use Rattle.parse_laws.proofs.Walk.{ahead, rule, told, built, Sim, step, step+, step-same, step-same+, step-expect, step-expect+, expect-end, eat-step, eat-need, if-alike, goes-so, each-takes, language, sees-starts, sim-by, sim-by-at, sim-at, at_kind, kind-at, any_name-at, step-name, name-agrees, none-at_end, assoc, tables}
-use Rattle.parse_laws.proofs.Symbols.{only-open_brace, only-open_paren, only-close_paren, only-close_brace, only-close_bracket, only-colon, only-function}
+use Rattle.parse_laws.proofs.Walk.{ahead, rule, told, built, Sim, step, step-same, step-same+, step-expect, if-alike, goes-so, each-takes, language, sim-by, sim-by-at, sim-at, at_kind, kind-at, any_name-at, none-at_end, tables}
+use Rattle.parse_laws.proofs.Symbols.{only-open_brace, only-close_brace}
 use Rattle.parse_laws.proofs.Loops.{listed-sim, none-first}
 use Rattle.parse_laws.proofs.Parted.{Parted}
 use Rattle.parse_laws.proofs.Arrows.{assign-sim}
-use Rattle.parse_laws.proofs.Bindings.{bind_name-sim, bind-sim, default-sim, element-sim}
 
 abbrev pub key_by : (Part → Parser Found) → Symbol → Parser PropertyKey
 key_by part s.OpenBracket = pkey.Computed <$> g.node_of part parts.ComputedKey

@@ -1,27 +1,25 @@
 -- Each part of each depth agrees.
-use Rattle.std.proofs.Common.{true, false, Bool, ◌≡◌, ℕ, zero, suc, List, [], ◌∷◌, length, refl, ap, sym, ◌∙◌, codes}
-use Rattle.std.specs.Prelude.{Option, Some, None, Ok, Err, if◌then◌else◌}
+use Rattle.std.proofs.Common.{true, false, Bool, ◌≡◌, ℕ, zero, suc, List, [], ◌∷◌, refl, ap, sym, ◌∙◌, codes}
+use Rattle.std.specs.Prelude.{Ok, Err, if◌then◌else◌}
 use Rattle.grammar.specs.Kinds.{among}
-use Rattle.grammar.specs.Grammar.{Tree, tip, leaf, pair, node, Grammar, both, call, token, prefer, line, starts, entry}
+use Rattle.grammar.specs.Grammar.{Tree, tip, pair, both, call, prefer, line, starts, entry}
 use Rattle.js_token.specs.declared.token.Token.{Token}
 use Rattle.js_tree.specs.Nodes.{Nodes}
 use Rattle.js_tree.specs.declared.node.NodeId.{NodeId}
 use Rattle.js_grammar.specs.Kinds.{kinds, mark}
-use Rattle.js_grammar.specs.Script.{Rule, rules, right, arrow_tail, assign, assign_rule, arrow_rule, new_rule, stmt, stmt_rule}
+use Rattle.js_grammar.specs.Script.{Rule, rules, right, arrow_tail, new_rule}
 use Rattle.js_parse.specs.declared.symbol.Symbol.TheVariants as s
-use Rattle.js_parse.specs.declared.part.Part.{Part}
 use Rattle.js_parse.specs.declared.part.Part.TheVariants as parts
-use Rattle.js_parse.specs.declared.part.Found.{Found}
 use Rattle.js_parse.specs.declared.part.Found.TheVariants as found
 use Rattle.js_parse.specs.Symbols.{of_kind}
-use Rattle.js_parse.specs.Input.{Parser, Outcome, Input, and_then, pure}
+use Rattle.js_parse.specs.Input.{Parser, Outcome, Input, and_then}
 use Rattle.js_parse.specs.Grammar as g
 use Rattle.js_parse.specs.Statements as st
 use Rattle.js_parse.specs.Nesting.{part_at}
 use Rattle.parse_laws.specs.Trees as mk
 use Rattle.parse_laws.specs.Trees.{Build, Parts, parts_at}
-use Rattle.parse_laws.proofs.Guided.{guided, Goes, Was, done, called, rule_at, guided-continues, called-done}
-use Rattle.parse_laws.proofs.Walk.{language, ahead, rule, told, built, Sim, goes-so, called-agree, if-alike}
+use Rattle.parse_laws.proofs.Guided.{guided, Goes, done, called, rule_at, guided-continues, called-done}
+use Rattle.parse_laws.proofs.Walk.{language, ahead, rule, told, built, Sim, called-agree, if-alike}
 use Rattle.parse_laws.proofs.Parted.{Parted, new_form}
 use Rattle.parse_laws.proofs.Bracketed
 use Rattle.parse_laws.proofs.Membered
@@ -40,9 +38,11 @@ wrapped (Err e) w u h = refl
 pub next-part : {A : Type 0} (depth n : ℕ) {p q : Parser A} {x : Rule} {b : Tree Token → Build A} → Sim depth q x b → language.rules n ≡ x
     → ((ts : List Token) (ns : Nodes) → told (p (ts, ns)) ≡ told (q (ts, ns))) → Sim (suc depth) p (call n) b
 unfolding guided rule_at
-next-part {A} depth n {p} {q} {x} {b} sim e h = record { holds = λ ts ns.
-  h ts ns ∙ sim.holds ts ns ∙ guided-continues language ahead (rule depth) (A × Input) x ts (built b ns)
-  ∙ ap (λ x. called (guided language ahead (rule depth) x ts done) (built b ns)) (sym e) }
+next-part {A} depth n {p} {q} {x} {b} sim e h = record {
+  holds = λ ts ns.
+      h ts ns ∙ sim.holds ts ns ∙ guided-continues language ahead (rule depth) (A × Input) x ts (built b ns)
+      ∙ ap (λ x. called (guided language ahead (rule depth) x ts done) (built b ns)) (sym e);
+}
 
 pub line-of : {A : Type 0} {depth : ℕ} {p : Parser A} {x : Rule} {b : Tree Token → Build A} (n : ℕ) → Sim depth p x b → Sim depth p (line n x) b
 unfolding guided

@@ -1,26 +1,22 @@
 -- Operators between operands.
-use Rattle.std.proofs.Common.{inl, inr, true, false, Bool, ◌⊎◌, ◌≡◌, ℕ, zero, suc, List, [], ◌∷◌, ◌++◌, length, refl, ap, sym, subst, ◌∙◌, codes}
-use Rattle.std.specs.Prelude.{Option, Some, None, Ok, Err, if◌then◌else◌, is_none}
+use Rattle.std.proofs.Common.{inl, inr, true, false, Bool, ◌⊎◌, ◌≡◌, ℕ, zero, suc, List, [], ◌∷◌, length, refl, ap, sym, subst, ◌∙◌, codes}
+use Rattle.std.specs.Prelude.{Option, Some, if◌then◌else◌}
 use Rattle.grammar.specs.Kinds.{among, apart}
-use Rattle.grammar.proofs.Sets.{is_or_not, off-apart}
-use Rattle.grammar.specs.Reading.{firsts, nullable}
-use Rattle.grammar.specs.Grammar.{Tree, tip, leaf, pair, node, Grammar, both, either, call, empty, token, many, named, on, prefer, line, starts}
+use Rattle.grammar.proofs.Sets.{off-apart}
+use Rattle.grammar.specs.Reading.{firsts}
+use Rattle.grammar.specs.Grammar.{Tree, tip, leaf, pair, node, both, token, named, line, starts}
 use Rattle.js_token.specs.declared.token.Token.{Token}
 use Rattle.js_tree.specs.Nodes.{Nodes}
 use Rattle.js_tree.specs.declared.node.NodeId.{NodeId}
 use Rattle.js_grammar.specs.Kinds.{kinds, mark}
-use Rattle.js_grammar.specs.Script.{Rule, any, always, optional, reaches, form, unary_rule, mul_rule, add_rule, shift_rule, rel_rule, equal_rule, bit_and_rule, bit_xor_rule, bit_or_rule, and_rule, or_rule, short_rule, left_rule, primary_rule, relational}
-use Rattle.js_parse.specs.declared.symbol.Symbol.{Symbol}
+use Rattle.js_grammar.specs.Script.{Rule, any, always, reaches, form, unary_rule, mul_rule, add_rule, shift_rule, rel_rule, equal_rule, bit_and_rule, bit_xor_rule, bit_or_rule, and_rule, or_rule, short_rule, left_rule, primary_rule}
 use Rattle.js_parse.specs.declared.symbol.Symbol.TheVariants as s
-use Rattle.js_parse.specs.Symbols.{of_kind, same}
-use Rattle.js_parse.specs.Operators.{infix_at}
-use Rattle.js_parse.specs.Input.{Parser, Outcome, Input, and_then, symbol, place, place_at, next, add, pure, sees, seen}
+use Rattle.js_parse.specs.Input.{Parser, Input, and_then, place, place_at, sees}
 use Rattle.js_parse.specs.Grammar as g
 use Rattle.js_parse.specs.Nesting.{part_at}
-use Rattle.parse_laws.specs.Kinds.{numbered, token_kind}
 use Rattle.parse_laws.specs.Trees as mk
 use Rattle.parse_laws.specs.Trees.{first_token, Parts, parts_at, place_in, symbol_in, first, second, under, Build}
-use Rattle.parse_laws.proofs.Guided.{guided, many_of, Goes, done, called, called_some, some_same, guided-continues}
+use Rattle.parse_laws.proofs.Guided.{guided, many_of, Goes, done, called_some, some_same, guided-continues}
 use Rattle.parse_laws.proofs.Sound.{vacant}
 use Rattle.parse_laws.proofs.Walk.{language, ahead, rule, told, built, Sim, step, step+, step-same, step-same+, sees-starts, tip-took, at-first, assoc, tables}
 use Rattle.parse_laws.proofs.Loops.{Level, chain-sim}
@@ -45,9 +41,11 @@ module _ (depth : ℕ) (h : Parted depth) (allow_in : Bool) where
   pub level-up : (n : ℕ) {x : Rule} {kinds : List ℕ} (name below : ℕ) → vacant x ≡ false → Level (suc n) allow_in kinds → Operated n x
       → Operated (suc n) (named name (both (line below x) (any (both (token kinds) (line below x)))))
   unfolding g.operations guided mk.operand_at g.operand
-  level-up n {x} name below v known prev at = record { holds = λ ts ns.
-    sym (assoc (g.unary (part_at depth) (ts, ns)) (λ u. g.operations (part_at depth) allow_in n at u.0) _)
-    ∙ step (prev at) ts ns _ _ (λ a mid. step-same (chain-sim depth (operand-sim n below v prev) at known _) mid _ _ (λ m rest. refl)) }
+  level-up n {x} name below v known prev at = record {
+    holds = λ ts ns.
+        sym (assoc (g.unary (part_at depth) (ts, ns)) (λ u. g.operations (part_at depth) allow_in n at u.0) _)
+        ∙ step (prev at) ts ns _ _ (λ a mid. step-same (chain-sim depth (operand-sim n below v prev) at known _) mid _ _ (λ m rest. refl));
+  }
 
   pub operated-0 : Operated 0 unary_rule
   unfolding g.operations mk.operand_at mk.unary
@@ -257,11 +255,11 @@ module _ (depth : ℕ) (h : Parted depth) (allow_in : Bool) where
   unfolding guided
   coalesced at ns c mid e =
       step-same (chain-sim depth operand-8 at (level-11 allow_in) _) mid _ _ (λ d rest.
-          ap (λ w. ended (mk.after w (λ left. mk.chain (mk.operand (parts_at depth) 8) at left d)) rest) (sym (tips-up at (node (form allow_in 38) c) ns))
-          ∙ ap (λ w. ended w rest) (sym (short-built at (node (form allow_in 38) c) tip tip d ns)))
+      ap (λ w. ended (mk.after w (λ left. mk.chain (mk.operand (parts_at depth) 8) at left d)) rest) (sym (tips-up at (node (form allow_in 38) c) ns))
+      ∙ ap (λ w. ended w rest) (sym (short-built at (node (form allow_in 38) c) tip tip d ns)))
       ∙ ap (λ b. if b then guided language ahead (rule depth) (any coalesce_x) mid
-          (λ d rest. built (mk.short_at (parts_at depth) at) ns (node (form allow_in 41) (pair (or_node (node (form allow_in 38) c) tip tip) d)) rest)
-          else built (mk.short_at (parts_at depth) at) ns (node (form allow_in 41) (pair (or_node (node (form allow_in 38) c) tip tip) tip)) mid) (sym (reached allow_in c))
+      (λ d rest. built (mk.short_at (parts_at depth) at) ns (node (form allow_in 41) (pair (or_node (node (form allow_in 38) c) tip tip) d)) rest)
+      else built (mk.short_at (parts_at depth) at) ns (node (form allow_in 41) (pair (or_node (node (form allow_in 38) c) tip tip) tip)) mid) (sym (reached allow_in c))
       ∙ sym (none-comes or_x (length mid) mid _ (no-or mid e)) ∙ sym (none-comes and_x (length mid) mid _ (no-and mid e))
 
   pub short-tip : (at : ℕ) (a c d : Tree Token) (ns : Nodes) (end : List Token)
@@ -305,12 +303,14 @@ module _ (depth : ℕ) (h : Parted depth) (allow_in : Bool) where
 
   pub shorted-sim : (at : ℕ) → Sim depth (shorted at) (short_rule allow_in) (mk.short_at (parts_at depth) at)
   unfolding g.short short_rule or_rule and_rule guided
-  shorted-sim at = record { holds = λ ts ns.
-    sym (assoc (g.unary (part_at depth) (ts, ns)) (λ u. g.operations (part_at depth) allow_in 8 at u.0) _)
-    ∙ step+ (operated-8 at) ts ns _ _ (λ a mid e.
-      let k = bits-node ts mid a e in
-      subst (λ a. told (let w = mk.operand_at (parts_at depth) 8 at a ns in short_choice at w.0 (sees s.Coalesce (mid, w.1)) (mid, w.1)) ≡ behind_bits at ns a mid)
-      (sym k.1) (short-chosen at ns k.0 mid)) }
+  shorted-sim at = record {
+    holds = λ ts ns.
+        sym (assoc (g.unary (part_at depth) (ts, ns)) (λ u. g.operations (part_at depth) allow_in 8 at u.0) _)
+        ∙ step+ (operated-8 at) ts ns _ _ (λ a mid e.
+        let k = bits-node ts mid a e in
+        subst (λ a. told (let w = mk.operand_at (parts_at depth) 8 at a ns in short_choice at w.0 (sees s.Coalesce (mid, w.1)) (mid, w.1)) ≡ behind_bits at ns a mid)
+        (sym k.1) (short-chosen at ns k.0 mid));
+  }
     where
       bits-node : (ts rest : List Token) (a : Tree Token) → guided language ahead (rule depth) (bit_or_rule allow_in) ts done ≡ Some (a, rest) → (c : Tree Token) × (a ≡ node (form allow_in 38) c)
       bits-node ts rest a e = bits-named ts rest a e

@@ -3,7 +3,6 @@ use Rattle.std.proofs.Common.{true, Bool, ◌≡◌, ℕ, List, ◌∷◌, [], c
 use Rattle.grammar.specs.Grammar.{call, both, prefer}
 use Rattle.js_grammar.specs.Kinds.{kinds, mark}
 use Rattle.js_grammar.specs.Script.{Rule, right, arrow_tail}
-use Rattle.js_parse.specs.declared.part.Part.{Part}
 use Rattle.js_parse.specs.declared.part.Part.TheVariants as parts
 use Rattle.js_token.specs.declared.token.Token.{Token}
 use Rattle.js_tree.specs.Nodes.{Nodes}
@@ -11,8 +10,7 @@ use Rattle.js_parse.specs.declared.symbol.Symbol.TheVariants as s
 use Rattle.js_parse.specs.Symbols.{of_kind}
 use Rattle.js_parse.specs.Grammar as g
 use Rattle.js_parse.specs.Nesting.{part_at}
-use Rattle.js_tree.specs.declared.node.NodeId.{NodeId}
-use Rattle.parse_laws.specs.Trees.{Parts, parts_at}
+use Rattle.parse_laws.specs.Trees.{parts_at}
 use Rattle.parse_laws.proofs.Walk.{language, ahead, rule, told, built, Sim}
 use Rattle.parse_laws.proofs.Guided.{guided}
 

@@ -1,5 +1,5 @@
 -- Scripts and faults of scripts: by the parser, and by the derivation that the grammar's reader finds. A row has the tokens, and how deep they may nest.
-use Rattle.std.proofs.Common.{true, false, Bool, ◌≡◌, ℕ, suc, List, [], ◌∷◌, length, Ok, Err, refl, codes}
+use Rattle.std.proofs.Common.{true, false, ◌≡◌, ℕ, suc, List, [], ◌∷◌, Ok, Err, refl, codes}
 use Rattle.std.specs.Prelude.{pos, Result}
 use Rattle.grammar.specs.Kinds as sets
 use Rattle.grammar.specs.Grammar as grammar

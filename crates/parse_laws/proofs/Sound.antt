@@ -1,12 +1,12 @@
 -- What is read so is derived, and its first token is that of its tree.
-use Rattle.std.proofs.Common.{inl, inr, true, false, Bool, ◌⊎◌, ◌≡◌, ℕ, zero, suc, ◌+◌, ◌<◌, ◌≤◌, List, [], ◌∷◌, ◌++◌, length, refl, ap, sym, subst, ◌∙◌, arith}
-use Rattle.std.specs.Prelude.{if◌then◌else◌, ◌||◌, Option, Some, None}
+use Rattle.std.proofs.Common.{inl, inr, true, false, Bool, ◌⊎◌, ◌≡◌, ℕ, zero, suc, ◌≤◌, List, [], ◌∷◌, length, refl, ap, sym, subst, ◌∙◌, arith}
+use Rattle.std.specs.Prelude.{if◌then◌else◌, ◌||◌, Some, None}
 use Rattle.grammar.specs.Kinds.{among}
-use Rattle.grammar.specs.Grammar.{Tree, tip, leaf, pair, node, Grammar, empty, token, call, line, both, either, fork, many, named, prefer, starting, on, Language, Relation, Perhaps, Choice, Chain, starts, Spells, Derives}
+use Rattle.grammar.specs.Grammar.{Tree, tip, leaf, pair, node, Grammar, empty, token, call, line, both, either, fork, many, named, prefer, starting, on, Language, Relation, Chain, starts, Spells, Derives}
 use Rattle.grammar.specs.Reading.{firsts}
 use Rattle.grammar.proofs.Sets.{or_right}
 use Rattle.parse_laws.specs.Trees.{first_token}
-use Rattle.parse_laws.proofs.Guided.{Was, Goes, done, called, taking, many_of, guided, rule_at, called_some, some_same, was, many-continues, guided-continues}
+use Rattle.parse_laws.proofs.Guided.{Was, Goes, done, called, many_of, guided, rule_at, called_some, some_same, was, many-continues, guided-continues}
 
 module _ {A : Type 0} (l : Language A) where
   -- What is told of what is read.
@@ -26,7 +26,7 @@ module _ {A : Type 0} (l : Language A) where
         elim (was (more (k.0).0) _ _ p k.2) [
           | inl m ↦
               let f = called_some (many_of l test more g n (k.0).1 done) _ p
-                  (sym (many-continues l (Tree A × List A) test more g g c c n (k.0).1 _) ∙ m.1) in
+              (sym (many-continues l (Tree A × List A) test more g g c c n (k.0).1 _) ∙ m.1) in
               subst (λ q. Chain Q more q.0 ts q.1) (some_same _ _ f.2)
               ((k.0).1, s ts k.0 k.1, inl (m.0, many-finds Q test more g c s n (k.0).1 f.0 f.1))
           | inr m ↦ subst (λ q. Chain Q more q.0 ts q.1) (some_same _ _ m.1) ((k.0).1, s ts k.0 k.1, inr (m.0, refl, refl))

@@ -1,46 +1,37 @@
 -- Statements.
-use Rattle.std.proofs.Common.{inl, inr, true, false, Bool, ◌⊎◌, ◌≡◌, ℕ, zero, suc, ◌≤◌, List, [], ◌∷◌, ◌++◌, length, refl, ap, sym, subst, ◌∙◌, codes, arith}
-use Rattle.std.specs.Prelude.{Option, Some, None, Ok, Err, if◌then◌else◌, not, ◌||◌, ◌%◌, ◌==◌, is_none}
+use Rattle.std.proofs.Common.{true, false, Bool, ◌≡◌, ℕ, suc, List, [], ◌∷◌, ◌++◌, length, refl, ap, sym, ◌∙◌, codes, arith}
+use Rattle.std.specs.Prelude.{Option, Some, None, if◌then◌else◌, ◌||◌, ◌%◌, ◌==◌, is_none}
 use Rattle.grammar.specs.Kinds.{among, apart, kept}
 use Rattle.grammar.proofs.Sets.{kept-among, among-kept, apart-tells}
 use Rattle.grammar.specs.Reading.{firsts, nullable}
 use Rattle.grammar.specs.Tests.{InPlace}
-use Rattle.grammar.specs.Grammar.{Tree, tip, leaf, pair, node, Grammar, both, either, call, empty, token, many, named, on, prefer, line, starts, entry}
+use Rattle.grammar.specs.Grammar.{Tree, tip, leaf, pair, both, either, call, empty, token, prefer, starts, entry}
 use Rattle.js_token.specs.declared.token.Token.{Token}
 use Rattle.js_tree.specs.Nodes.{Nodes}
 use Rattle.js_tree.specs.declared.node.NodeId.{NodeId}
 use Rattle.js_tree.specs.declared.node.Node.{Node}
 use Rattle.js_tree.specs.declared.node.Node.TheVariants as made
-use Rattle.js_tree.specs.declared.node.Declarator.{Declarator}
 use Rattle.js_grammar.specs.Kinds.{kinds, mark, word, end}
-use Rattle.js_grammar.specs.Script.{Rule, rules, heads, any, always, optional, commas, identifier, pattern, bind, let_binding, const_binding, declaration, assign, assign_rule, expr, expr_rule, stmt_rule, item_rule, block_rule, stmt, item, unbroken, loop_rest}
-use Rattle.js_grammar.specs.Script as rule_of
+use Rattle.js_grammar.specs.Script.{Rule, rules, heads, optional, commas, expr, expr_rule, stmt_rule, item_rule, block_rule, item, unbroken}
 use Rattle.js_parse.specs.declared.symbol.Symbol.{Symbol}
 use Rattle.js_parse.specs.declared.symbol.Symbol.TheVariants as s
-use Rattle.js_parse.specs.declared.part.Part.{Part}
 use Rattle.js_parse.specs.declared.part.Part.TheVariants as parts
-use Rattle.js_parse.specs.declared.part.Found.{Found}
-use Rattle.js_parse.specs.declared.part.Head.{Head}
-use Rattle.js_parse.specs.declared.part.Head.TheVariants as head
-use Rattle.js_parse.specs.Symbols.{of_kind, same, is_name}
-use Rattle.js_parse.specs.Input.{Parser, Outcome, Input, and_then, symbol, place, place_at, next, add, pure, refuse, refusal, expect, sees, after, peek, here, take_token, leaf as leaf_of, is_broken, broken_at, ◌>>=◌, ◌>>◌, ◌<$>◌}
+use Rattle.js_parse.specs.Symbols.{of_kind}
+use Rattle.js_parse.specs.Input.{Parser, Input, and_then, place, place_at, next, add, pure, refuse, expect, sees, take_token, leaf as leaf_of, is_broken, ◌>>=◌, ◌>>◌, ◌<$>◌}
 use Rattle.js_parse.specs.Grammar as g
 use Rattle.js_parse.specs.Statements as st
 use Rattle.js_parse.specs.Nesting.{part_at}
 use Rattle.parse_laws.specs.Kinds.{numbered, token_kind}
 use Rattle.parse_laws.specs.Trees as mk
 use Rattle.parse_laws.specs.Trees.{Parts, parts_at, place_in, symbol_in, first_token, first, second, under, Build}
-use Rattle.parse_laws.proofs.Guided.{guided, many_of, Goes, Was, done}
+use Rattle.parse_laws.proofs.Guided.{guided, Goes}
 use Rattle.parse_laws.proofs.Sound.{vacant, read-front}
-use Rattle.parse_laws.proofs.Walk.{language, ahead, rule, told, built, Sim, step, step+, step-same, step-same+, step-expect, eat-step, eat-step+, eat-need, eat-need+, eat-prefer, even-kind, sim-by, sim-by-at, sim-at, at_kind, kind-at, dispatch, if-alike, sees-starts, not-begun, on-true, on-false, goes-so, none-at_end, assoc, each-takes, pair-front, by-first, tables}
+use Rattle.parse_laws.proofs.Walk.{language, ahead, rule, told, built, Sim, step, step+, step-expect, eat-step, eat-step+, eat-need+, eat-prefer, even-kind, sim-by-at, sim-at, at_kind, sees-starts, not-begun, on-true, on-false, none-at_end, assoc, each-takes, tables}
 use Rattle.parse_laws.proofs.Symbols
-use Rattle.parse_laws.proofs.Loops.{commas-loop, items-loop, none-first}
+use Rattle.parse_laws.proofs.Loops.{items-loop, none-first}
 use Rattle.parse_laws.proofs.Parted.{Parted}
-use Rattle.parse_laws.proofs.Bindings.{bind-sim}
-use Rattle.parse_laws.proofs.Patterns
-use Rattle.parse_laws.proofs.Declared
-use Rattle.parse_laws.proofs.Declared.{declarator-sim, declarators-sim, binding, comma_binding}
-use Rattle.parse_laws.proofs.Arrows.{assign-sim, assign-takes, expression-sim, expr-takes}
+use Rattle.parse_laws.proofs.Declared.{declarator-sim, declarators-sim, binding}
+use Rattle.parse_laws.proofs.Arrows.{expression-sim, expr-takes}
 
 module _ (depth : ℕ) (h : Parted depth) where
   -- ---- declarations

@@ -1,5 +1,5 @@
 -- The kinds of single symbols.
-use Rattle.std.proofs.Common.{true, false, Bool, ◌≡◌, ℕ, List, [], ◌∷◌, refl, codes}
+use Rattle.std.proofs.Common.{true, false, Bool, ◌≡◌, [], ◌∷◌, refl, codes}
 use Rattle.grammar.specs.Kinds.{among, alike}
 use Rattle.js_grammar.specs.Kinds.{kinds, mark, word, name, place_in, marks, words, contextual, end, template_head, template_middle, template_tail}
 use Rattle.js_parse.specs.declared.symbol.Symbol.{Symbol}
@@ -267,7 +267,6 @@ template_head-agrees _ true = refl
 pub only-template_head : Only s.TemplateHead (kinds (template_head ∷ []))
 unfolding same
 only-template_head = record { agrees = template_head-agrees; no_end = refl }
-
 
 pub is-question : (symbol : Symbol) → same symbol s.Question ≡ true → symbol ≡ s.Question
 unfolding same

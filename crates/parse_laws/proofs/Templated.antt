@@ -1,42 +1,31 @@
 -- Templates.
-use Rattle.std.proofs.Common.{inl, inr, true, false, Bool, ◌⊎◌, ◌≡◌, ℕ, zero, suc, ◌≤◌, List, [], ◌∷◌, ◌++◌, length, refl, ap, sym, subst, ◌∙◌, codes, arith}
-use Rattle.std.specs.Prelude.{Option, Some, None, Ok, Err, if◌then◌else◌}
+use Rattle.std.proofs.Common.{true, false, Bool, ◌≡◌, ℕ, zero, suc, ◌≤◌, List, [], ◌∷◌, ◌++◌, length, refl, ap, sym, ◌∙◌, arith}
+use Rattle.std.specs.Prelude.{Option, None, if◌then◌else◌}
 use Rattle.grammar.specs.Kinds.{among, apart}
 use Rattle.grammar.specs.Reading.{firsts, nullable}
-use Rattle.grammar.specs.Tests.{InPlace}
-use Rattle.grammar.specs.Grammar.{Tree, tip, leaf, pair, node, Grammar, both, either, call, empty, token, many, named, on, prefer, line, starts, entry}
+use Rattle.grammar.specs.Grammar.{Tree, tip, leaf, pair, both, token}
 use Rattle.std.proofs.lemmas.List.{append-nil}
 use Rattle.grammar.proofs.Sets.{apart-tells}
 use Rattle.js_token.specs.declared.token.Token.{Token}
 use Rattle.js_tree.specs.Nodes.{Nodes}
 use Rattle.js_tree.specs.declared.node.NodeId.{NodeId}
 use Rattle.js_tree.specs.declared.node.Node.TheVariants as made
-use Rattle.js_tree.specs.declared.node.BindProperty.{BindProperty}
-use Rattle.js_tree.specs.declared.node.Function.{Function}
-use Rattle.js_grammar.specs.Kinds.{template_head, template_middle, template_tail, kinds, mark, word, names, reserved, text}
-use Rattle.js_grammar.specs.Script.{expr, expr_rule, template_rule, Rule, rules, heads, any, always, optional, listed, bind, default, identifier, parameter, pattern_member, pattern_rule, parameters_rule, no_parameters_rule, one_parameter_rule, function_rule, declared_rule, function_rest, any_name}
-use Rattle.js_parse.specs.declared.symbol.Symbol.{Symbol}
+use Rattle.js_grammar.specs.Kinds.{template_head, template_middle, template_tail, kinds}
+use Rattle.js_grammar.specs.Script.{expr, expr_rule, template_rule, Rule, any, always}
 use Rattle.js_parse.specs.declared.symbol.Symbol.TheVariants as s
-use Rattle.js_parse.specs.declared.part.Part.{Part}
-use Rattle.js_parse.specs.declared.part.Part.TheVariants as parts
-use Rattle.js_parse.specs.declared.part.Found.{Found}
-use Rattle.js_parse.specs.declared.part.Parameters.{Parameters}
-use Rattle.js_parse.specs.Symbols.{of_kind, same, is_name, is_any_name}
-use Rattle.js_parse.specs.Input.{seen, Parser, Outcome, Input, and_then, symbol, text as text_next, any_name as any_name_next, text_of, place, place_at, next, add, pure, refuse, refusal, take_text, expect, sees, after, peek, here, ◌>>=◌, ◌>>◌}
+use Rattle.js_parse.specs.Symbols.{of_kind}
+use Rattle.js_parse.specs.Input.{seen, Parser, Input, and_then, symbol, text as text_next, text_of, place, next, add, pure, refuse, take_text, sees, ◌>>=◌}
 use Rattle.js_parse.specs.Grammar as g
-use Rattle.js_parse.specs.Statements as st
 use Rattle.js_parse.specs.Nesting.{part_at}
-use Rattle.parse_laws.specs.Kinds.{numbered, token_kind}
+use Rattle.parse_laws.specs.Kinds.{token_kind}
 use Rattle.parse_laws.specs.Trees as mk
 use Rattle.parse_laws.specs.Trees.{Parts, parts_at, place_in, symbol_in, first_token, first, second, under, Build}
-use Rattle.parse_laws.proofs.Guided.{guided, many_of, taking, Goes, Was, done}
-use Rattle.parse_laws.proofs.Sound.{vacant, read-front, read-shorter}
-use Rattle.parse_laws.proofs.Walk.{language, ahead, rule, told, built, Sim, step, step+, step-same, step-same+, each-takes, step-expect, step-expect+, expect-end, eat-step, eat-need, on-false, sees-starts, sim-by, sim-by-at, sim-at, at_kind, kind-at, if-alike, any_name-at, step-name, name-agrees, none-at_end, assoc, tables}
-use Rattle.parse_laws.proofs.Symbols.{only-template_tail, only-template_middle, only-open_paren, only-close_paren, only-close_brace, only-close_bracket, only-colon, only-function}
-use Rattle.parse_laws.proofs.Loops.{listed-sim, none-first}
+use Rattle.parse_laws.proofs.Guided.{guided, many_of, taking}
+use Rattle.parse_laws.proofs.Sound.{read-front, read-shorter}
+use Rattle.parse_laws.proofs.Walk.{language, ahead, rule, told, built, step+, each-takes, at_kind, kind-at, none-at_end, assoc, tables}
+use Rattle.parse_laws.proofs.Symbols.{only-template_tail, only-template_middle}
 use Rattle.parse_laws.proofs.Parted.{Parted}
 use Rattle.parse_laws.proofs.Arrows.{expression-sim, expr-takes}
-use Rattle.parse_laws.proofs.Bindings.{bind_name-sim, bind-sim, default-sim, element-sim}
 
 module _ (depth : ℕ) (h : Parted depth) where
   abbrev pub heads_ : List ℕ

@@ -1,12 +1,12 @@
 -- Steps by which what the parser reads is compared with what is read by the grammar.
-use Rattle.std.proofs.Common.{inl, inr, true, false, Bool, ◌⊎◌, ◌≡◌, ℕ, zero, suc, ◌+◌, ◌<◌, ◌≤◌, List, [], ◌∷◌, ◌++◌, length, refl, ap, sym, subst, ◌∙◌, arith, codes}
+use Rattle.std.proofs.Common.{inl, inr, true, false, Bool, ◌≡◌, ℕ, zero, suc, ◌≤◌, List, [], ◌∷◌, ◌++◌, length, refl, ap, sym, ◌∙◌, arith, codes}
 use Rattle.std.proofs.lemmas.List.{append-nil}
 use Rattle.std.specs.Prelude.{if◌then◌else◌, ◌==◌, ◌%◌, Option, Some, None, Ok, Err}
 use Rattle.grammar.specs.Kinds.{among, kept, alike}
-use Rattle.grammar.specs.Grammar.{Tree, tip, leaf, pair, node, Grammar, empty, token, call, line, both, either, fork, many, named, prefer, starting, on, entry, Language, starts, Derives, Spells, Chain}
+use Rattle.grammar.specs.Grammar.{Tree, tip, leaf, pair, node, Grammar, empty, token, call, line, both, either, fork, many, named, prefer, starting, on, entry, starts, Derives, Spells, Chain}
 use Rattle.grammar.specs.Reading.{firsts, nullable}
 use Rattle.grammar.specs.Tests.{Fits, InPlace}
-use Rattle.grammar.proofs.Sets.{is_or_not, begun-surely, test_was}
+use Rattle.grammar.proofs.Sets.{begun-surely, test_was}
 use Rattle.grammar.proofs.Complete.{derives-begun, spells-begun}
 use Rattle.js_token.specs.declared.token.Token.{Token}
 use Rattle.js_tree.specs.Nodes.{Nodes}
@@ -16,15 +16,13 @@ use Rattle.js_grammar.proofs.Tables.{tails}
 use Rattle.js_grammar.proofs.Passes.{script-fits}
 use Rattle.js_parse.specs.declared.symbol.Symbol.{Symbol}
 use Rattle.js_parse.specs.declared.symbol.Symbol.TheVariants as s
-use Rattle.js_parse.specs.declared.fault.Fault.{Fault}
-use Rattle.js_parse.specs.declared.fault.Fault.TheVariants as fault
 use Rattle.js_parse.specs.Symbols.{same, of_kind, is_name, is_any_name}
-use Rattle.js_parse.specs.Input.{Input, Outcome, Parser, and_then, or_later, later, expect, sees, after, next, refusal, symbol, symbol as symbol_named, is_arrow_ahead, is_arrow_next, arrow, is_arrow, ◌>>=◌, peek, here, place, place_at, name as a_name, any_name, text_of, text, take_text, refuse, fork as fork_of}
+use Rattle.js_parse.specs.Input.{Input, Outcome, Parser, and_then, expect, sees, after, next, refusal, symbol, symbol as symbol_named, is_arrow_ahead, is_arrow_next, arrow, is_arrow, ◌>>=◌, peek, place_at, name as a_name, any_name, text_of, text, take_text, refuse}
 use Rattle.parse_laws.specs.Kinds.{token_kind, numbered}
 pub use Rattle.parse_laws.specs.Agreement.{language}
-use Rattle.parse_laws.specs.Trees.{Build, first_token, symbol_in, symbol_of_first, place_in, place_of_first, one_of, Parts, parts_at}
+use Rattle.parse_laws.specs.Trees.{Build, first_token, symbol_in, symbol_of_first, place_in, place_of_first, one_of}
 use Rattle.parse_laws.proofs.Guided.{Was, Goes, done, called, taking, many_of, guided, rule_at, some_same, called_some, was, many-continues, guided-continues}
-use Rattle.parse_laws.proofs.Sound.{vacant, guided-finds, rule-finds, read-front, read-shorter}
+use Rattle.parse_laws.proofs.Sound.{vacant, guided-finds, rule-finds, read-front}
 
 -- whether an arrow comes, rather than another expression
 unfoldable pub ahead : List Token → Bool
@@ -123,7 +121,7 @@ eat-or {A} {x} {kinds} depth only (t ∷ ts) ns g y k m h o =
     ap (λ b. told (g b (if b then (ts, ns) else (t ∷ ts, ns)))) (only.agrees (of_kind t.kind) t.broken)
     ∙ by (among kinds (token_kind t)) refl
     ∙ ap (λ f. if among f (token_kind t) then (if among kinds (token_kind t) then guided language ahead (rule depth) y ts (λ b end. k (pair (leaf t) b) end) else None)
-        else m) (sym (append-nil kinds))
+    else m) (sym (append-nil kinds))
   where
     by : (b : Bool) → among kinds (token_kind t) ≡ b → told (g b (if b then (ts, ns) else (t ∷ ts, ns)))
         ≡ (if b then (if b then guided language ahead (rule depth) y ts (λ b end. k (pair (leaf t) b) end) else None) else m)
@@ -318,7 +316,7 @@ not-begun {C} depth x i v ts k o = guided-continues language ahead (rule depth) 
     by (Some p) e =
         let d = guided-finds language ahead (rule depth) (Derives language depth) (rule-finds language ahead depth) x ts p e in
         let b = begun-surely language (firsts language.heads x) (nullable x) ts p.1 v
-            (spells-begun language (entry [] tails) language-fits (Derives language depth) (derives-begun language (entry [] tails) language-fits depth) x i ts p.1 p.0 d) in
+        (spells-begun language (entry [] tails) language-fits (Derives language depth) (derives-begun language (entry [] tails) language-fits depth) x i ts p.1 p.0 d) in
         absurd (let on = b.0 in cc (o, on))
 
 -- the same, where nothing goes on

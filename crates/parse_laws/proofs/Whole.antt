@@ -1,14 +1,13 @@
 -- Whole scripts.
-use Rattle.std.proofs.Common.{inl, inr, true, false, Bool, ◌⊎◌, ◌≡◌, ℕ, zero, suc, List, [], ◌∷◌, ◌++◌, length, refl, ap, sym, subst, ◌∙◌}
-use Rattle.std.specs.Prelude.{Option, Some, None, Result, Ok, Err, if◌then◌else◌}
-use Rattle.grammar.specs.Grammar.{Tree, tip, leaf, pair, node, Derives, Spells, Chain}
+use Rattle.std.proofs.Common.{inl, true, false, Bool, ◌≡◌, ℕ, zero, suc, List, [], ◌∷◌, ◌++◌, length, refl, ap, sym, ◌∙◌}
+use Rattle.std.specs.Prelude.{Some, None, Ok, Err, if◌then◌else◌}
+use Rattle.grammar.specs.Grammar.{Tree, tip, pair, Derives, Spells, Chain}
 use Rattle.js_token.specs.declared.token.Token.{Token}
 use Rattle.js_tree.specs.Nodes.{Nodes}
 use Rattle.js_tree.specs.declared.node.NodeId.{NodeId}
 use Rattle.js_tree.specs.declared.node.Node.TheVariants as made
-use Rattle.js_grammar.specs.Script.{any, item, always, nesting}
+use Rattle.js_grammar.specs.Script.{item, always, nesting}
 use Rattle.js_parse.specs.declared.symbol.Symbol.TheVariants as s
-use Rattle.js_parse.specs.declared.fault.ParseFault.{ParseFault}
 use Rattle.js_parse.specs.Symbols.{same}
 use Rattle.js_parse.specs.Ready.{symbol_of}
 use Rattle.js_parse.specs.Input.{Parser, Outcome, Input, and_then, add, place, place_at, sees, symbol}
@@ -18,10 +17,9 @@ use Rattle.js_parse.specs.Parsing.{parsed, shown}
 use Rattle.parse_laws.specs.Agreement.{language, script_nodes, AreItems}
 use Rattle.parse_laws.specs.Trees as mk
 use Rattle.parse_laws.specs.Trees.{parts_at, Build}
-use Rattle.parse_laws.proofs.Guided.{guided, Goes, Was, done, called, some_same, guided-continues}
+use Rattle.parse_laws.proofs.Guided.{guided, Was, done, called, some_same, guided-continues}
 use Rattle.parse_laws.proofs.Sound.{guided-finds, rule-finds}
-use Rattle.parse_laws.proofs.Walk.{ahead, rule, told, built, Sim}
-use Rattle.parse_laws.proofs.Symbols
+use Rattle.parse_laws.proofs.Walk.{ahead, rule, told, built}
 use Rattle.parse_laws.proofs.Nested.{parted}
 use Rattle.parse_laws.proofs.Stated
 
@@ -52,7 +50,7 @@ module _ (depth : ℕ) where
   item-found ts ns p e =
       let sim = (Stated.item-line depth (parted depth)).holds ts ns in
       let k = told-read (guided language ahead (rule depth) item ts done) (mk.item (parts_at depth)) ns p
-          (ap (λ o. told o) (sym e) ∙ sim ∙ guided-continues language ahead (rule depth) (NodeId × Input) item ts (built (mk.item (parts_at depth)) ns)) in
+      (ap (λ o. told o) (sym e) ∙ sim ∙ guided-continues language ahead (rule depth) (NodeId × Input) item ts (built (mk.item (parts_at depth)) ns)) in
       ((k.0).0, (k.0).1, guided-finds language ahead (rule depth) (Derives language depth) (rule-finds language ahead depth) item ts k.0 k.1, k.2)
 
   abbrev pub turn_of : ℕ → List NodeId → Bool → Parser (List NodeId)
@@ -71,7 +69,7 @@ module _ (depth : ℕ) where
           let k = ok_first (st.item (part_at depth) (ts, ns)) (λ x. st.items_from (part_at depth) s.End n (found ++ x ∷ [])) v e in
           let a = item-found ts ns k.0 k.1 in
           let f : st.items_from (part_at depth) s.End n (found ++ (mk.item (parts_at depth) a.0 ns).0 ∷ []) (a.1, (mk.item (parts_at depth) a.0 ns).1) ≡ Ok v =
-              ap (λ p. st.items_from (part_at depth) s.End n (found ++ p.0 ∷ []) p.1) (sym a.3) ∙ k.2 in
+          ap (λ p. st.items_from (part_at depth) s.End n (found ++ p.0 ∷ []) p.1) (sym a.3) ∙ k.2 in
           let r = ih _ _ _ v f in
           (pair a.0 r.0, r.1, (a.1, a.2, inl (refl, r.2)), r.3, r.4)
 

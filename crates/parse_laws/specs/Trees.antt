@@ -1,6 +1,6 @@
 -- The list of nodes that a derivation stands for (ECMA-262, 5.1.4, 13 to 16): each child before its parent, each node with the byte offset of its first token.
 -- Which of several right sides a part was derived by, its first token tells.
-use Rattle.std.specs.Prelude.{◌≡◌, ℕ, zero, suc, Bool, true, false, if◌then◌else◌, List, [], ◌∷◌, ◌++◌, length, Option, Some, None, is_none, ℤ, pos}
+use Rattle.std.specs.Prelude.{ℕ, zero, suc, Bool, true, false, if◌then◌else◌, List, [], ◌∷◌, ◌++◌, length, Option, Some, None, is_none, ℤ, pos}
 use Rattle.grammar.specs.Grammar.{Tree, tip, leaf, pair, node}
 use Rattle.js_token.specs.declared.token.Token.{Token}
 use Rattle.js_tree.specs.Nodes.{Nodes}
@@ -211,16 +211,16 @@ module _ (part : Parts) where
 
   unfoldable pub parameters_behind : List BindElement → Tree Token → Build Parameters
   parameters_behind found (pair m others) = if absent (second m) then pure (record { list = found; rest = None }) else (
-    if is_rest (second m) then rest_of found (second m) else (do
-      x ← bind_element (second m)
-      parameters_behind (found ++ x ∷ []) others))
+      if is_rest (second m) then rest_of found (second m) else (do
+        x ← bind_element (second m)
+        parameters_behind (found ++ x ∷ []) others))
   parameters_behind found _ = pure (record { list = found; rest = None })
 
   unfoldable pub parameter_list : Tree Token → Build Parameters
   parameter_list tree = if absent tree then pure (record { list = []; rest = None }) else (
-    if is_rest (first tree) then rest_of [] (first tree) else (do
-      x ← bind_element (first tree)
-      parameters_behind (x ∷ []) (second tree)))
+      if is_rest (first tree) then rest_of [] (first tree) else (do
+        x ← bind_element (first tree)
+        parameters_behind (x ∷ []) (second tree)))
 
   unfoldable pub parameters : Tree Token → Build Parameters
   parameters tree = parameter_list (first (second tree))

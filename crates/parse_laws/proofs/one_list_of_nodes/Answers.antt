@@ -1,4 +1,4 @@
-use Rattle.std.proofs.Common.{◌≡◌, suc, ap, []}
+use Rattle.std.proofs.Common.{suc, ap, []}
 use Rattle.grammar.specs.Grammar.{entry}
 use Rattle.grammar.proofs.Limits.{one-tree}
 use Rattle.js_grammar.specs.Script.{script_language, script, nesting}
