@@ -1,0 +1,36 @@
+-- What is promised of the nodes of scripts.
+use Rattle.std.specs.Prelude.{◌≡◌, ℕ, List, [], Ok}
+use Rattle.grammar.specs.Grammar.{Tree, token, entry, Language, Derives, Spells}
+use Rattle.js_token.specs.declared.token.Token.{Token}
+use Rattle.js_tree.specs.Nodes.{Nodes}
+use Rattle.js_tree.specs.declared.node.Node.TheVariants as made
+use Rattle.js_grammar.specs.Script.{rules, heads, any, item, nesting}
+use Rattle.js_grammar.specs.Scripts.{IsScript}
+use Rattle.js_parse.specs.declared.symbol.Symbol.TheVariants as s
+use Rattle.js_parse.specs.Input.{place_at}
+use Rattle.js_parse.specs.Ready.{symbol_of}
+use Rattle.js_parse.specs.Parsing.{parsed}
+use Rattle.parse_laws.specs.Kinds.{token_kind}
+use Rattle.parse_laws.specs.Trees as mk
+use Rattle.parse_laws.specs.Trees.{nodes_of, parts_at}
+
+-- All derivations of a script stand for one list of nodes.
+abbrev pub HasOneList : Type 0
+HasOneList = (tokens : List Token) (a b : Tree Token) → IsScript tokens a → IsScript tokens b → nodes_of nesting a ≡ nodes_of nesting b
+
+-- the grammar of scripts, over tokens by their symbols
+abbrev pub language : Language Token
+language = record { kind = token_kind; rules = entry (token []) rules; heads = entry [] heads }
+
+-- the nodes of items, and behind them that of their script, at a place
+unfoldable pub script_nodes : ℕ → Tree Token → Nodes
+script_nodes at items = (mk.after (mk.all_behind (mk.item (parts_at nesting)) [] items []) (λ found. mk.added (made.Script found) at)).1
+
+-- These tokens up to that rest are items, as the tree lists them, in which nothing nests deeper than the limit.
+abbrev pub AreItems : List Token → List Token → Tree Token → Type 0
+AreItems tokens rest items = Spells language (Derives language nesting) (any item) tokens rest items
+
+-- What is parsed is the items of a script up to the end of the text, and the list of its nodes is theirs.
+abbrev pub ParsesDerived : Type 0
+ParsesDerived = (tokens : List Token) (nodes : Nodes) → parsed tokens ≡ Ok nodes
+    → (items : Tree Token) × (rest : List Token) × AreItems tokens rest items × (symbol_of rest ≡ s.End) × (nodes ≡ script_nodes (place_at tokens) items)

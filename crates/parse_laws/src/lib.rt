@@ -1,0 +1,19 @@
+//! The laws that join the parser to the grammar of scripts.
+//!
+//! `specs/Trees` has the list of nodes that a derivation stands for, `specs/Kinds` the kinds of tokens by their symbols,
+//! and `specs/Agreement` what is promised. In `proofs/`, each rule of the parser is compared with that of the grammar,
+//! depth by depth: both read the same, or neither does. `proofs/Rows` has whole scripts, their faults included.
+#![tactic(auto)]
+
+ghost use Rattle.parse_laws.specs.Agreement.{HasOneList, ParsesDerived};
+
+/// What the parser reads has a derivation, and the tree's nodes are those of that derivation (ECMA-262, 16.1): the items
+/// of the script, up to the end of the text, by the grammar's rules, with parts nested at most to the limit.
+pub fn what_is_parsed_is_derived()
+    ensures { ParsesDerived }
+{}
+
+/// A script has one list of nodes, by whichever derivation (ECMA-262, 5.1.4).
+pub fn one_list_of_nodes()
+    ensures { HasOneList }
+{}
