@@ -405,22 +405,22 @@ fn told(alloc: Global, folder: &mut MemFolder) -> Result<String, AllocError> {
     }
 }
 
+/// Whether this key of the manifest is told as broken, or none.
+fn is_told(alloc: Global, manifest: &str, key: Option<&str>) -> Result<bool, Fail> {
+    let mut folder = folder_of(alloc, &[("a/worlds.json", manifest)])?;
+    let answer = told(alloc, &mut folder)?;
+    let Some(key) = key else {
+        return Ok(answer.as_str().starts_with("absent a/"));
+    };
+    let wanted = format!(in alloc; "shape a/worlds.json {key}")?;
+    Ok(answer.as_str() == wanted.as_str())
+}
+
 #[test]
 fn the_first_broken_key_of_a_manifest_is_told(rt: HostRuntime) -> Result<(), Fail> {
-    let alloc = rt.alloc();
     for (manifest, key) in &MANIFESTS {
-        let mut folder = folder_of(alloc, &[("a/worlds.json", manifest)])?;
-        let answer = told(alloc, &mut folder)?;
-        match key {
-            None => assert!(rt;
-                answer.as_str().starts_with("absent a/"),
-                "{manifest}: {answer}"
-            ),
-            Some(key) => {
-                let wanted = format!(in alloc; "shape a/worlds.json {key}")?;
-                assert!(rt; answer.as_str() == wanted.as_str(), "{manifest}: {answer}");
-            }
-        }
+        let right = is_told(rt.alloc(), manifest, *key)?;
+        assert!(rt; right, "the key that is told of {manifest}");
     }
     Ok(())
 }
