@@ -3,6 +3,9 @@
 
 mod defining;
 mod functions;
+mod lists;
+mod member;
 
 pub use defining::define;
 pub use functions::{make_function, row_arrow, row_fun};
+pub use member::{members_from, row_object};

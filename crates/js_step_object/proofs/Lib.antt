@@ -1,0 +1,4 @@
+pub mod Writing
+pub mod Defined
+pub mod Making
+pub mod Behind
