@@ -48,7 +48,7 @@ told_cell None b h = absurd (cc)
 told_cell (Some c) b h = (c, refl, h)
 
 pub has_body : (cells : List (ℕ × Cell ℕ)) (loc : ℕ) (key : List ℕ) (t : Bool) → told (body_at cells loc) key ≡ Some t → HasBody cells loc
-has_body cells loc key t h = let g = told_body (body_at cells loc) key t h in (g.0, g.1.0)
+has_body cells loc key t h = let g = told_body (body_at cells loc) key t h in (g.0, g.1)
 
 -- how many places the property takes
 takes_none : (o : Option (Property ℕ)) → is_some o ≡ true → places_for o ≡ 0
@@ -99,7 +99,7 @@ add_ok nodes loc key property old new heap r done stands law ok is =
     let (c, found, has) = told_cell (find nat_eq old.heap.cells loc) b body_is in
     let wrote : Extending old.heap loc (with_body c (with_property b key property)) (Ok done) heap = rw ok at (law c b found has) in
     let room : old.heap.counts.places + 1 ≤ old.heap.limits.places = passed_none old.heap.limits (grown old.heap.counts 0 1 0) wrote.0 in
-    defined_ok nodes loc key property old c b found has new 1 (takes_one (found_under b.properties key) key_is) (omega arith) (is ∙ ap (λ h. record old { heap = h }) wrote.1.1)
+    defined_ok nodes loc key property old c b found has new 1 (takes_one (found_under b.properties key) key_is) (omega arith) (is ∙ ap (λ h. record old { heap = h }) wrote.2)
 
 -- no place is left for it
 pub add_full : (nodes : List Node) (loc : ℕ) (key : List ℕ) (property : Property ℕ) (old mid new : State) (heap : HeapView) (r : Result (SetDone ℕ) HeapFault) (next : Next) → told (body_at old.heap.cells loc) key ≡ Some false → ((c : Cell ℕ) (b : Body ℕ) → find nat_eq old.heap.cells loc ≡ Some c → body_of c ≡ Some b → Extending old.heap loc (with_body c (with_property b key property)) r heap) → r ≡ Err full.Places → mid ≡ record old { heap = heap } → new ≡ record mid { control = controls.Stop } → next ≡ Made (Stopped Places) → Defines nodes loc key property old new (Some next)

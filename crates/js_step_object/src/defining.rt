@@ -1,5 +1,5 @@
 //! The definition of a property of an object that is being made (ECMA-262, 7.3.5: CreateDataProperty).
-ghost use Rattle.std.specs.Prelude.{◌≡◌, ℕ, List, IfOk, true, is_some, nat_eq};
+ghost use Rattle.std.specs.Prelude.{◌≡◌, ℕ, List, IfOk, None, Some, false, true, is_some, nat_eq};
 ghost use Rattle.std.specs.Option.{option_map};
 ghost use Rattle.js_tree.specs.declared.node.Node as kind;
 ghost use Rattle.world_heap.specs.Heaps.{IsNoEnv};

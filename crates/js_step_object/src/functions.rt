@@ -1,5 +1,5 @@
 //! Functions (ECMA-262, 10.2.3, 10.2.5 and 15.2 to 15.3).
-ghost use Rattle.std.specs.Prelude.{◌≡◌, ℕ, [], ◌∷◌, List, IfOk, Some, None, true, codes};
+ghost use Rattle.std.specs.Prelude.{◌≡◌, ℕ, [], ◌∷◌, List, IfOk, Some, None, false, true, codes};
 ghost use Rattle.js_tree.specs.declared.node.Node as kind;
 ghost use Rattle.js_semantics.specs.Environments.{bind_in, env_cell, unready};
 ghost use Rattle.js_semantics.specs.Objects.{make_closure, make_function, make_object, row_arrow, row_fun};
