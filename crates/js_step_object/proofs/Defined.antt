@@ -102,8 +102,9 @@ add_ok nodes loc key property old new heap r done stands law ok is =
     defined_ok nodes loc key property old c b found has new 1 (takes_one (found_under b.properties key) key_is) (omega arith) (is ∙ ap (λ h. record old { heap = h }) wrote.2)
 
 -- no place is left for it
-pub add_full : (nodes : List Node) (loc : ℕ) (key : List ℕ) (property : Property ℕ) (old mid new : State) (heap : HeapView) (r : Result (SetDone ℕ) HeapFault) (next : Next) → told (body_at old.heap.cells loc) key ≡ Some false → ((c : Cell ℕ) (b : Body ℕ) → find nat_eq old.heap.cells loc ≡ Some c → body_of c ≡ Some b → Extending old.heap loc (with_body c (with_property b key property)) r heap) → r ≡ Err full.Places → mid ≡ record old { heap = heap } → new ≡ record mid { control = controls.Stop } → next ≡ Made (Stopped Places) → Defines nodes loc key property old new (Some next)
-add_full nodes loc key property old mid new heap r next stands law err between is told_is =
+pub add_full : (nodes : List Node) (loc : ℕ) (key : List ℕ) (property : Property ℕ) (old mid new : State) (heap : HeapView) (r : Result (SetDone ℕ) HeapFault) (fault : HeapFault) (next : Next) → told (body_at old.heap.cells loc) key ≡ Some false → ((c : Cell ℕ) (b : Body ℕ) → find nat_eq old.heap.cells loc ≡ Some c → body_of c ≡ Some b → Extending old.heap loc (with_body c (with_property b key property)) r heap) → r ≡ Err fault → fault ≡ full.Places → mid ≡ record old { heap = heap } → new ≡ record mid { control = controls.Stop } → next ≡ Made (Stopped Places) → Defines nodes loc key property old new (Some next)
+add_full nodes loc key property old mid new heap r fault next stands law answered fault_is between is told_is =
+    let err : r ≡ Err full.Places = answered ∙ ap (λ f. Err f) fault_is in
     let (b, body_is, key_is) = told_body (body_at old.heap.cells loc) key false stands in
     let (c, found, has) = told_cell (find nat_eq old.heap.cells loc) b body_is in
     let kept : Extending old.heap loc (with_body c (with_property b key property)) (Err full.Places) heap = rw err at (law c b found has) in

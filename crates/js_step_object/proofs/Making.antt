@@ -5,15 +5,15 @@ use Rattle.js_tree.specs.declared.node.NodeId.{NodeId}
 use Rattle.world_heap.specs.declared.value.Value.{Value}
 use Rattle.world_heap.specs.declared.value.Value.TheVariants.{Ref}
 use Rattle.world_heap.specs.declared.value.Property.TheVariants.{Data}
-use Rattle.world_heap.specs.declared.builtin.BuiltIn.TheVariants.{FunctionPrototype, ObjectPrototype}
+use Rattle.world_heap.specs.declared.builtin.BuiltIn.TheVariants.{ArrayPrototype, FunctionPrototype, ObjectPrototype}
 use Rattle.world_heap.specs.declared.cell.Cell.{Cell}
-use Rattle.world_heap.specs.declared.cell.Cell.TheVariants.{Object, Closure}
+use Rattle.world_heap.specs.declared.cell.Cell.TheVariants.{Array, Object, Closure}
 use Rattle.world_heap.specs.Heaps.{units_of}
 use Rattle.js_semantics.specs.declared.entry.Product.TheVariants.{Stopped}
 use Rattle.js_semantics.specs.declared.entry.Stop.{Stop}
 use Rattle.js_semantics.specs.World.{World, built_in}
 use Rattle.js_semantics.specs.Prog.{Prog, Read, alloc}
-use Rattle.js_semantics.specs.Access.{define}
+use Rattle.js_semantics.specs.Access.{define, make_array}
 use Rattle.js_semantics.specs.Objects.{bare, make_closure, make_function, make_object}
 use Rattle.js_machine.specs.declared.state.State.{State}
 use Rattle.js_machine.specs.declared.state.Next.{Next}
@@ -78,3 +78,19 @@ module _ (nodes : List Node) (node : NodeId) (env : ℕ) (old mid late new : Sta
       let inner : ℕ → ℕ → Prog ℕ = λ l o. define l (codes "prototype") (λ before. Data (Ref o) true false false) (k l) in
       does_move nodes 2 (make_function node env k) (make_object (inner loc)) old mid new next (closed (λ l. make_object (inner l)))
         (does_move nodes 2 (make_object (inner loc)) (inner loc proto) mid late new next (made (inner loc)) (defined (λ before. Data (Ref proto) true false false) refl (k loc)))
+
+-- no closure is made
+pub function_none : (nodes : List Node) (node : NodeId) (env : ℕ) (old new : State) (next : Next) → Makes nodes (λ k. make_closure node env None k) old new (Err next) → Makes nodes (λ k. make_function node env k) old new (Err next)
+unfolding make_function
+function_none nodes node env old new next h = λ k. h (λ loc. make_object (λ proto. define loc (codes "prototype") (λ before. Data (Ref proto) true false false) (k loc)))
+
+-- an array without elements
+pub array_ok : (nodes : List Node) (items : List (Value ℕ)) (old new : State) (loc : ℕ) → items ≡ [] → ((supply : ℕ → ℕ) → Allocates (Array (built_in ArrayPrototype (world_of nodes supply old)) items false) old new (Ok loc)) → Makes nodes (λ k. make_array [] k) old new (Ok loc)
+unfolding make_array
+array_ok nodes items old new loc none made = λ k.
+    moves_make nodes (λ w. Array (built_in ArrayPrototype w) [] false) (Array (built_in ArrayPrototype (world_of nodes (λ m. m) old)) [] false) k old new loc refl (λ supply. refl) (rw none at (made (λ m. m)))
+
+pub array_err : (nodes : List Node) (items : List (Value ℕ)) (old new : State) (stop : Stop) (next : Next) → items ≡ [] → ((supply : ℕ → ℕ) → Allocates (Array (built_in ArrayPrototype (world_of nodes supply old)) items false) old new (Err stop)) → next ≡ Made (Stopped stop) → Makes nodes (λ k. make_array [] k) old new (Err next)
+unfolding make_array
+array_err nodes items old new stop next none made told = λ k.
+    rw told (stops_make nodes (λ w. Array (built_in ArrayPrototype w) [] false) (Array (built_in ArrayPrototype (world_of nodes (λ m. m) old)) [] false) k old new stop (λ supply. refl) (rw none at (made (λ m. m))))
