@@ -4,3 +4,5 @@ pub mod Defined
 pub mod Making
 pub mod Going
 pub mod Behind
+pub mod Membership
+pub mod Pushing

@@ -1,5 +1,5 @@
 -- Cells that a row makes.
-use Rattle.std.proofs.Common.{◌≡◌, ℕ, List, [], Option, Some, None, Ok, Err, true, false, codes, refl, sym, ap, ◌∙◌, arith}
+use Rattle.std.proofs.Common.{◌≡◌, ℕ, List, [], Option, Some, None, Ok, Err, true, false, codes, refl, sym, ap, ◌∙◌, subst, arith}
 use Rattle.js_tree.specs.declared.node.Node.{Node}
 use Rattle.js_tree.specs.declared.node.NodeId.{NodeId}
 use Rattle.world_heap.specs.declared.value.Value.{Value}
@@ -88,9 +88,9 @@ function_none nodes node env old new next h = λ k. h (λ loc. make_object (λ p
 pub array_ok : (nodes : List Node) (items : List (Value ℕ)) (old new : State) (loc : ℕ) → items ≡ [] → ((supply : ℕ → ℕ) → Allocates (Array (built_in ArrayPrototype (world_of nodes supply old)) items false) old new (Ok loc)) → Makes nodes (λ k. make_array [] k) old new (Ok loc)
 unfolding make_array
 array_ok nodes items old new loc none made = λ k.
-    moves_make nodes (λ w. Array (built_in ArrayPrototype w) [] false) (Array (built_in ArrayPrototype (world_of nodes (λ m. m) old)) [] false) k old new loc refl (λ supply. refl) (rw none at (made (λ m. m)))
+    moves_make nodes (λ w. Array (built_in ArrayPrototype w) [] false) (Array (built_in ArrayPrototype (world_of nodes (λ m. m) old)) [] false) k old new loc refl (λ supply. refl) (subst (λ vs. Allocates (Array (built_in ArrayPrototype (world_of nodes (λ m. m) old)) vs false) old new (Ok loc)) none (made (λ m. m)))
 
 pub array_err : (nodes : List Node) (items : List (Value ℕ)) (old new : State) (stop : Stop) (next : Next) → items ≡ [] → ((supply : ℕ → ℕ) → Allocates (Array (built_in ArrayPrototype (world_of nodes supply old)) items false) old new (Err stop)) → next ≡ Made (Stopped stop) → Makes nodes (λ k. make_array [] k) old new (Err next)
 unfolding make_array
 array_err nodes items old new stop next none made told = λ k.
-    rw told (stops_make nodes (λ w. Array (built_in ArrayPrototype w) [] false) (Array (built_in ArrayPrototype (world_of nodes (λ m. m) old)) [] false) k old new stop (λ supply. refl) (rw none at (made (λ m. m))))
+    rw told (stops_make nodes (λ w. Array (built_in ArrayPrototype w) [] false) (Array (built_in ArrayPrototype (world_of nodes (λ m. m) old)) [] false) k old new stop (λ supply. refl) (subst (λ vs. Allocates (Array (built_in ArrayPrototype (world_of nodes (λ m. m) old)) vs false) old new (Err stop)) none (made (λ m. m))))

@@ -90,16 +90,25 @@ pub fn row_arrow(state: &mut State, node: NodeId, scope: Scope) -> Result<Next, 
     }
 }
 
+// The name of a function as a binding that can't be written and isn't ready.
+fn name_bindings(alloc: Global, name: &Units) -> Result<Items<Binding>, StepFault>
+    ensures { IfOk result (λ bindings. bindings ≡ unready true name.now ∷ []) }
+{
+    let mut bindings = Items::new(alloc);
+    let name = name.copy(alloc)?;
+    bindings.push(Binding {
+        name,
+        value: None,
+        fixed: true,
+    })?;
+    Ok(bindings)
+}
+
 // Makes an environment with the name of a function, which can't be written.
 fn name_environment(state: &mut State, env: Loc, name: &Units) -> Result<Making, StepFault>
     ensures { (nodes : List kind.Node) → IfOk result (λ made. Makes nodes (λ k. alloc (env_cell (Some env) (unready true name.now ∷ [])) k) state.old state.new made) }
 {
-    let mut bindings = Items::new(state.alloc);
-    bindings.push(Binding {
-        name: name.copy(state.alloc)?,
-        value: None,
-        fixed: true,
-    })?;
+    let bindings = name_bindings(state.alloc, name)?;
     match state.make_environment(Some(env), bindings)? {
         Ok(loc) => Ok(Ok(loc)),
         Err(stop) => Ok(Err(stopped(stop))),

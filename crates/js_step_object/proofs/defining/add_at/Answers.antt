@@ -14,4 +14,4 @@ returns-in-Ok c nodes =
 
 pub returns-in-Err-Places : goal.returns-in-Err-Places
 returns-in-Err-Places c nodes =
-    add_full nodes c.args.loc c.args.key c.args.property c.args.state.now (record c.args.state.now { heap = c.add_property.new.heap }) c.turn_to.new.self c.add_property.new.heap c.add_property.result _ c.stopped.result c.requires.stands c.add_property.ensures c.in-Err-Places.is ? refl c.turn_to.ensures c.stopped.ensures
+    add_full nodes c.args.loc c.args.key c.args.property c.args.state.now (record c.args.state.now { heap = c.add_property.new.heap }) c.turn_to.new.self c.add_property.new.heap c.add_property.result _ c.stopped.result c.requires.stands c.add_property.ensures c.in-Err-Places.is c.in-Err-Places.field-0-is refl c.turn_to.ensures c.stopped.ensures

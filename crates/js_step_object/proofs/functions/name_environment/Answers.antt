@@ -6,10 +6,10 @@ use Rattle.js_step_object.proofs.functions.name_environment.Goals as goal
 
 pub returns-in-Ok : goal.returns-in-Ok
 returns-in-Ok c nodes =
-    let bindings : c.push.new.self ≡ unready true c.args.name.now ∷ [] = cc (c.in_ok-push.ensures.ok, c.in_ok-copy.ensures, c.new-bindings.ensures) in
-    alloc_ok nodes (env_cell (Some c.args.env) (unready true c.args.name.now ∷ [])) (env_cell (Some c.args.env) c.push.new.self) c.args.state.now c.make_environment.new.self _ c.in-Ok.loc refl (ap (λ bs. env_cell (Some c.args.env) bs) bindings) c.in_ok-loc.ensures c.in-Ok.is
+    let bindings : c.in_ok-bindings.bindings ≡ unready true c.args.name.now ∷ [] = c.in_ok-bindings.ensures in
+    alloc_ok nodes (env_cell (Some c.args.env) (unready true c.args.name.now ∷ [])) (env_cell (Some c.args.env) c.in_ok-bindings.bindings) c.args.state.now c.make_environment.new.self _ c.in-Ok.loc refl (ap (λ bs. env_cell (Some c.args.env) bs) bindings) c.in_ok-loc.ensures c.in-Ok.is
 
 pub returns-in-Err : goal.returns-in-Err
 returns-in-Err c nodes =
-    let bindings : c.push.new.self ≡ unready true c.args.name.now ∷ [] = cc (c.in_ok-push.ensures.ok, c.in_ok-copy.ensures, c.new-bindings.ensures) in
-    alloc_err nodes (env_cell (Some c.args.env) (unready true c.args.name.now ∷ [])) (env_cell (Some c.args.env) c.push.new.self) c.args.state.now c.make_environment.new.self _ c.in-Err.stop c.stopped.result (ap (λ bs. env_cell (Some c.args.env) bs) bindings) c.in_ok-loc.ensures c.in-Err.is c.stopped.ensures
+    let bindings : c.in_ok-bindings.bindings ≡ unready true c.args.name.now ∷ [] = c.in_ok-bindings.ensures in
+    alloc_err nodes (env_cell (Some c.args.env) (unready true c.args.name.now ∷ [])) (env_cell (Some c.args.env) c.in_ok-bindings.bindings) c.args.state.now c.make_environment.new.self _ c.in-Err.stop c.stopped.result (ap (λ bs. env_cell (Some c.args.env) bs) bindings) c.in_ok-loc.ensures c.in-Err.is c.stopped.ensures
