@@ -1,5 +1,5 @@
 -- How a property is defined.
-use Rattle.std.proofs.Common.{◌≡◌, ℕ, ◌+◌, ◌-◌, ◌≤◌, ◌<◌, List, Option, Some, None, Bool, true, false, Result, Ok, Err, IfOk, nat_eq, refl, sym, ap, ◌∙◌, arith}
+use Rattle.std.proofs.Common.{◌≡◌, ℕ, ◌+◌, ◌-◌, ◌≤◌, ◌<◌, List, Option, Some, None, Bool, true, false, Result, Ok, Err, nat_eq, refl, sym, ap, ◌∙◌, arith}
 use Rattle.std.specs.Prelude.{is_some}
 use Rattle.std.specs.Option.{option_and_then, option_map}
 use Rattle.js_tree.specs.declared.node.Node.{Node}
@@ -16,20 +16,19 @@ use Rattle.world_heap.specs.Views.{HeapView}
 use Rattle.world_heap.specs.Growth.{grown}
 use Rattle.proto_props.specs.declared.outcome.SetDone.{SetDone}
 use Rattle.proto_props.specs.Changes.{Rewriting, Extending}
-use Rattle.js_semantics.specs.declared.fault.StepFault.{StepFault}
 use Rattle.js_semantics.specs.declared.fault.Fault.TheVariants.{ReadOnly}
 use Rattle.js_semantics.specs.declared.entry.Product.TheVariants.{Stopped}
 use Rattle.js_semantics.specs.declared.entry.Stop.TheVariants.{Places}
 use Rattle.js_semantics.specs.World.{with_cell}
-use Rattle.js_semantics.specs.Properties.{Writes, Refuses, with_property, places_for, defined_at, defined_in, define_step}
+use Rattle.js_semantics.specs.Properties.{with_property, places_for, defined_at, defined_in, define_step}
 use Rattle.js_semantics.specs.Prog.{Prog, change, count_places, throw}
 use Rattle.js_semantics.specs.Access.{carry_out, define}
 use Rattle.js_machine.specs.declared.state.State.{State}
 use Rattle.js_machine.specs.declared.state.Control.TheVariants as controls
 use Rattle.js_machine.specs.declared.state.Next.{Next}
 use Rattle.js_machine.specs.declared.state.Next.TheVariants.{Made}
-use Rattle.js_machine.specs.Does.{Does, Moves}
-use Rattle.js_machine.proofs.Doing.{does_read, does_read_ok, moves_on, moves_read}
+use Rattle.js_machine.specs.Does.{Does}
+use Rattle.js_machine.proofs.Doing.{does_read, moves_on, moves_read}
 use Rattle.js_step_object.specs.Defining.{Defines, body_at, standing, under_key}
 use Rattle.js_step_object.proofs.Writing.{does_not_place, moves_write, passed_none, passed_places}
 
@@ -90,7 +89,7 @@ put_ok nodes loc key property old new heap r done stands law ok is =
     let wrote : Rewriting old.heap loc (with_body c (with_property b key property)) (Ok done) heap = rw ok at (law c b found has) in
     let same : grown old.heap.counts 0 0 0 ≡ old.heap.counts = grind arith in
     defined_ok nodes loc key property old c b found has new 0 (takes_none (found_under b.properties key) key_is) (omega arith)
-      (is ∙ ap (λ h. record old { heap = h }) wrote.1 ∙ sym (ap (λ n. record old { heap = record old.heap { cells = put nat_eq old.heap.cells loc (with_body c (with_property b key property)); counts = n } }) same))
+    (is ∙ ap (λ h. record old { heap = h }) wrote.1 ∙ sym (ap (λ n. record old { heap = record old.heap { cells = put nat_eq old.heap.cells loc (with_body c (with_property b key property)); counts = n } }) same))
 
 -- a property is added
 pub add_ok : (nodes : List Node) (loc : ℕ) (key : List ℕ) (property : Property ℕ) (old new : State) (heap : HeapView) (r : Result (SetDone ℕ) HeapFault) (done : SetDone ℕ) → told (body_at old.heap.cells loc) key ≡ Some false → ((c : Cell ℕ) (b : Body ℕ) → find nat_eq old.heap.cells loc ≡ Some c → body_of c ≡ Some b → Extending old.heap loc (with_body c (with_property b key property)) r heap) → r ≡ Ok done → new ≡ record old { heap = heap } → Defines nodes loc key property old new None

@@ -1,5 +1,5 @@
 -- How a row goes on with what was made or defined.
-use Rattle.std.proofs.Common.{◌≡◌, ℕ, List, Option, Some, None, Result, Ok, Err, IfOk, refl, sym, subst, arith}
+use Rattle.std.proofs.Common.{◌≡◌, ℕ, List, Option, Some, None, Result, Ok, Err, IfOk, subst, arith}
 use Rattle.js_tree.specs.declared.node.Node.{Node}
 use Rattle.world_heap.specs.declared.value.Property.{Property}
 use Rattle.world_heap.specs.declared.cell.Cell.{Cell}
@@ -8,14 +8,13 @@ use Rattle.js_semantics.specs.declared.entry.Product.TheVariants.{Stopped}
 use Rattle.js_semantics.specs.declared.entry.Stop.{Stop}
 use Rattle.js_semantics.specs.declared.fault.StepFault.{StepFault}
 use Rattle.js_semantics.specs.Prog.{Prog, alloc}
-use Rattle.js_semantics.specs.Access.{define}
 use Rattle.js_machine.specs.declared.state.State.{State}
 use Rattle.js_machine.specs.declared.state.Next.{Next}
 use Rattle.js_machine.specs.declared.state.Next.TheVariants.{Made}
-use Rattle.js_machine.specs.Does.{Allocates, Does, Moves}
+use Rattle.js_machine.specs.Does.{Allocates, Does}
 use Rattle.js_machine.proofs.Doing.{allowing, does_move, does_move_ok}
 use Rattle.js_machine.proofs.Allocating.{moves_alloc, not_alloc}
-use Rattle.js_step_object.specs.Defining.{Comes, Defines, Makes, standing}
+use Rattle.js_step_object.specs.Defining.{Comes, Defines, Makes}
 
 -- with what was made
 pub then_ok : (nodes : List Node) (f : (ℕ → Prog ℕ) → Prog ℕ) (k : ℕ → Prog ℕ) (old mid new : State) (made : Result ℕ Next) (loc : ℕ) (r : Result Next StepFault) → Makes nodes f old mid made → made ≡ Ok loc → IfOk r (λ next. Does nodes 6 (k loc) mid new next) → IfOk r (λ next. Does nodes 6 (f k) old new next)

@@ -1,5 +1,5 @@
 -- Cells that a row makes.
-use Rattle.std.proofs.Common.{◌≡◌, ℕ, List, [], Option, Some, None, Ok, Err, true, false, codes, refl, sym, ap, ◌∙◌, subst, arith}
+use Rattle.std.proofs.Common.{◌≡◌, ℕ, List, [], Option, Some, None, Ok, Err, true, false, codes, refl, sym, ap, subst, arith}
 use Rattle.js_tree.specs.declared.node.Node.{Node}
 use Rattle.js_tree.specs.declared.node.NodeId.{NodeId}
 use Rattle.world_heap.specs.declared.value.Value.{Value}
@@ -70,14 +70,14 @@ module _ (nodes : List Node) (node : NodeId) (env : ℕ) (old mid late new : Sta
   function_ok made defined = λ k.
       let inner : ℕ → ℕ → Prog ℕ = λ l o. define l (codes "prototype") (λ before. Data (Ref o) true false false) (k l) in
       moves_on nodes (make_function node env k) (make_object (inner loc)) (k loc) old mid new (closed (λ l. make_object (inner l)))
-        (moves_on nodes (make_object (inner loc)) (inner loc proto) (k loc) mid late new (made (inner loc)) (defined (λ before. Data (Ref proto) true false false) refl (k loc)))
+      (moves_on nodes (make_object (inner loc)) (inner loc proto) (k loc) mid late new (made (inner loc)) (defined (λ before. Data (Ref proto) true false false) refl (k loc)))
 
   pub function_last : (next : Next) → Makes nodes (λ k. make_object k) mid late (Ok proto) → Defines nodes loc (codes "prototype") (Data (Ref proto) true false false) late new (Some next) → Makes nodes (λ k. make_function node env k) old new (Err next)
   unfolding make_function
   function_last next made defined = λ k.
       let inner : ℕ → ℕ → Prog ℕ = λ l o. define l (codes "prototype") (λ before. Data (Ref o) true false false) (k l) in
       does_move nodes 2 (make_function node env k) (make_object (inner loc)) old mid new next (closed (λ l. make_object (inner l)))
-        (does_move nodes 2 (make_object (inner loc)) (inner loc proto) mid late new next (made (inner loc)) (defined (λ before. Data (Ref proto) true false false) refl (k loc)))
+      (does_move nodes 2 (make_object (inner loc)) (inner loc proto) mid late new next (made (inner loc)) (defined (λ before. Data (Ref proto) true false false) refl (k loc)))
 
 -- no closure is made
 pub function_none : (nodes : List Node) (node : NodeId) (env : ℕ) (old new : State) (next : Next) → Makes nodes (λ k. make_closure node env None k) old new (Err next) → Makes nodes (λ k. make_function node env k) old new (Err next)

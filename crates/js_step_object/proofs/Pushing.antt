@@ -1,5 +1,5 @@
 -- How an element is put at the end of an array, and how elements are entered.
-use Rattle.std.proofs.Common.{◌≡◌, ℕ, ◌+◌, ◌-◌, ◌≤◌, ◌<◌, List, [], ◌∷◌, ◌++◌, Option, Some, None, Bool, true, false, not, Result, Ok, Err, nat_eq, refl, sym, ap, ◌∙◌, arith}
+use Rattle.std.proofs.Common.{◌≡◌, ℕ, ◌+◌, ◌≤◌, ◌<◌, List, [], ◌∷◌, ◌++◌, Option, Some, None, Bool, true, false, Result, Ok, Err, nat_eq, refl, sym, ap, ◌∙◌, arith}
 use Rattle.js_tree.specs.declared.node.NodeId.{NodeId}
 use Rattle.js_tree.specs.declared.node.Node.{Node}
 use Rattle.js_tree.specs.declared.node.Node.TheVariants as kinds
@@ -17,14 +17,14 @@ use Rattle.proto_props.specs.Changes.{Extending}
 use Rattle.js_semantics.specs.declared.scope.Scope.{Scope}
 use Rattle.js_semantics.specs.declared.entry.Product.TheVariants.{Stopped}
 use Rattle.js_semantics.specs.declared.entry.Stop.TheVariants.{Places}
-use Rattle.js_semantics.specs.World.{World, cell_at}
+use Rattle.js_semantics.specs.World.{cell_at}
 use Rattle.js_semantics.specs.Prog.{Prog, Read, change, eval, step}
 use Rattle.js_semantics.specs.Iteration.{items_at, push_item, pushed, values_of, walk_value}
 use Rattle.js_machine.specs.declared.state.State.{State}
 use Rattle.js_machine.specs.declared.state.Control.TheVariants as controls
 use Rattle.js_machine.specs.declared.state.Next.{Next}
 use Rattle.js_machine.specs.declared.state.Next.TheVariants.{Made}
-use Rattle.js_machine.specs.Does.{Does, Moves, world_of}
+use Rattle.js_machine.specs.Does.{world_of}
 use Rattle.js_step_object.specs.Defining.{Comes}
 use Rattle.js_step_object.specs.Elements.{is_open_array, spread_in}
 use Rattle.js_step_object.proofs.Writing.{does_not_place, moves_write, passed_none, passed_places}

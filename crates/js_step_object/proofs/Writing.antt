@@ -1,16 +1,15 @@
 -- What a cell that takes the place of another is to a row, with the places that it takes.
-use Rattle.std.proofs.Common.{◌≡◌, ℕ, zero, suc, ◌+◌, ◌*◌, ◌-◌, ◌≤◌, ◌<◌, List, [], ◌∷◌, Option, Some, None, Bool, true, false, if◌then◌else◌, nat_lt, nat_eq, refl, sym, ap, ◌∙◌, arith}
+use Rattle.std.proofs.Common.{◌≡◌, ℕ, suc, ◌+◌, ◌*◌, ◌-◌, ◌≤◌, ◌<◌, List, [], ◌∷◌, Some, None, Bool, true, false, if◌then◌else◌, nat_lt, nat_eq, refl, sym, ap, ◌∙◌, arith}
 use Rattle.std.proofs.lemmas.Bool.Decides.{nat_tests}
 use Rattle.js_tree.specs.declared.node.Node.{Node}
 use Rattle.world_heap.specs.declared.cell.Cell.{Cell}
 use Rattle.world_heap.specs.declared.limits.Counts.{Counts}
-use Rattle.world_heap.specs.declared.limits.Full.{Full}
 use Rattle.world_heap.specs.declared.limits.Full.TheVariants.{Places as FullPlaces, Units as FullUnits}
 use Rattle.world_heap.specs.Maps.{keys, put, keys-put}
 use Rattle.world_heap.specs.Views.{Bounds}
 use Rattle.world_heap.specs.Growth.{first_passed, grown}
 use Rattle.js_semantics.specs.World.{World, with_cell}
-use Rattle.js_semantics.specs.Prog.{Prog, Place, bind, change, count_places}
+use Rattle.js_semantics.specs.Prog.{Prog, bind, change, count_places}
 use Rattle.js_semantics.specs.Run.{receive, run}
 use Rattle.js_semantics.specs.declared.entry.Product.TheVariants.{Stopped}
 use Rattle.js_semantics.specs.declared.entry.Stop.TheVariants.{Places}

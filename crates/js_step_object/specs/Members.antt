@@ -1,6 +1,5 @@
 -- The members of an object literal (ECMA-262, 13.2.5.5 and 15.4.5): their keys, and the properties that have functions.
-use Rattle.std.specs.Prelude.{ℕ, List, true, Option, Some, None}
-use Rattle.std.specs.Option.{option_map}
+use Rattle.std.specs.Prelude.{ℕ, Option, Some, None}
 use Rattle.js_tree.specs.declared.node.NodeId.{NodeId}
 use Rattle.js_tree.specs.declared.node.PropertyKey.{PropertyKey}
 use Rattle.js_tree.specs.declared.node.PropertyKey.TheVariants.{Written, Computed}

@@ -80,7 +80,12 @@ fn add_at(
 }
 
 // Throws, since nothing can be defined at the location.
-fn refuse(state: &mut State, loc: Loc, key: Units, property: Property) -> Result<Option<Next>, StepFault>
+fn refuse(
+    state: &mut State,
+    loc: Loc,
+    key: Units,
+    property: Property,
+) -> Result<Option<Next>, StepFault>
     requires { body_at state.old.heap.cells loc ≡ None }
     ensures { (nodes : List kind.Node) → IfOk result (λ ended. Defines nodes loc key property state.old state.new ended) }
 {

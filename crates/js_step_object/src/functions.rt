@@ -116,15 +116,16 @@ fn name_environment(state: &mut State, env: Loc, name: &Units) -> Result<Making,
 }
 
 // Gives the name of a function its value, and ends the row with it.
-fn give_named(
-    state: &mut State,
-    env: Loc,
-    name: &Units,
-    function: Loc,
-) -> Result<Next, StepFault>
+fn give_named(state: &mut State, env: Loc, name: &Units, function: Loc) -> Result<Next, StepFault>
     ensures { (nodes : List kind.Node) → IfOk result (λ next. Does nodes 6 (change (bind_in env name.now (Value.Ref function)) (give (Value.Ref function))) state.old state.new next) }
 {
-    match bind_in(state.alloc, &mut state.heap, env, name, Value::Ref(function)) {
+    match bind_in(
+        state.alloc,
+        &mut state.heap,
+        env,
+        name,
+        Value::Ref(function),
+    ) {
         Ok(()) => {}
         Err(fault) => return Err(fault),
     }

@@ -10,4 +10,6 @@ mod member;
 pub use defining::define;
 pub use element::{element_value, elements_from, push, row_array};
 pub use functions::{make_function, row_arrow, row_fun};
-pub use member::{Member, Part, member_keyed, members_from, property_value, row_member, row_object};
+pub use member::{
+    Member, Part, member_keyed, members_from, property_value, row_member, row_object,
+};

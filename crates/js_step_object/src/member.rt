@@ -104,12 +104,7 @@ pub fn row_object(
 }
 
 // Defines a plain property, and ends the row of the member.
-fn define_value(
-    state: &mut State,
-    object: Loc,
-    key: Units,
-    value: Value,
-) -> Result<Next, StepFault>
+fn define_value(state: &mut State, object: Loc, key: Units, value: Value) -> Result<Next, StepFault>
     ensures { (nodes : List kind.Node) → IfOk result (λ next. Does nodes 6 (define object key (λ old. plain value) done) state.old state.new next) }
 {
     let property = Property::Data {
@@ -193,12 +188,7 @@ fn key_part(alloc: Global, tree: &Tree, node: NodeId) -> Result<Units, StepFault
 }
 
 // The key of a member, which is written in it where it isn't this text.
-fn own_key(
-    alloc: Global,
-    tree: &Tree,
-    node: NodeId,
-    key: Option<Units>,
-) -> Result<Units, StepFault>
+fn own_key(alloc: Global, tree: &Tree, node: NodeId, key: Option<Units>) -> Result<Units, StepFault>
     ensures { IfOk result (λ text. text ≡ property_key (nodes_of tree.now) node key) }
 {
     match key {

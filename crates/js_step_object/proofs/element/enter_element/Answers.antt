@@ -15,11 +15,11 @@ returns-in-None c =
     let nodes = nodes_of c.args.tree.now in
     let k : List (Value ℕ) → Prog ℕ = λ vs. push_items c.args.array vs (elements_into c.args.array (drop c.args.next (items_of (slice_get nodes c.args.node.0))) c.args.scope (give (Ref c.args.array))) in
     does_read_ok nodes 6 (λ w. values_of (slice_get w.tree c.args.element.0) c.args.element c.args.scope k) (values_of (slice_get nodes c.args.element.0) c.args.element c.args.scope k) c.args.state.now c.enter_one.new.state c.enter_one.result (λ supply. refl)
-      (rw (element_is (slice_get nodes c.args.element.0) c.args.element c.args.scope k, ← c.spread_of.ensures, c.in-None.is) (c.enter_one.ensures nodes))
+    (rw (element_is (slice_get nodes c.args.element.0) c.args.element c.args.scope k, ← c.spread_of.ensures, c.in-None.is) (c.enter_one.ensures nodes))
 
 pub returns-in-Some : goal.returns-in-Some
 returns-in-Some c =
     let nodes = nodes_of c.args.tree.now in
     let k : List (Value ℕ) → Prog ℕ = λ vs. push_items c.args.array vs (elements_into c.args.array (drop c.args.next (items_of (slice_get nodes c.args.node.0))) c.args.scope (give (Ref c.args.array))) in
     does_read_ok nodes 6 (λ w. values_of (slice_get w.tree c.args.element.0) c.args.element c.args.scope k) (values_of (slice_get nodes c.args.element.0) c.args.element c.args.scope k) c.args.state.now c.enter_spread.new.state c.enter_spread.result (λ supply. refl)
-      (rw (element_is (slice_get nodes c.args.element.0) c.args.element c.args.scope k, ← c.spread_of.ensures, c.in-Some.is) (c.enter_spread.ensures nodes))
+    (rw (element_is (slice_get nodes c.args.element.0) c.args.element c.args.scope k, ← c.spread_of.ensures, c.in-Some.is) (c.enter_spread.ensures nodes))

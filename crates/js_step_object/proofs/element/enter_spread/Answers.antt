@@ -1,8 +1,8 @@
-use Rattle.std.proofs.Common.{◌≡◌, false, true, ◌∷◌, drop, refl, arith}
+use Rattle.std.proofs.Common.{false, true, drop, arith}
 use Rattle.std.specs.Prelude.{slice_get}
 use Rattle.world_heap.specs.declared.value.Value.TheVariants.{Ref}
 use Rattle.js_semantics.specs.World.{cell_at}
-use Rattle.js_semantics.specs.Prog.{Prog, Read, Step, eval, give}
+use Rattle.js_semantics.specs.Prog.{Read, Step, eval, give}
 use Rattle.js_semantics.specs.Iteration.{elements_into, items_at, push_items, walk_value}
 use Rattle.js_machine.specs.Does.{StepsDown}
 use Rattle.js_machine.specs.Parts.{items_of}

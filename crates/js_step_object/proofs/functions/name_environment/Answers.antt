@@ -1,5 +1,4 @@
-use Rattle.std.proofs.Common.{◌≡◌, refl, Some, [], ◌∷◌, true, ap, List, ℕ}
-use Rattle.world_heap.specs.declared.cell.Binding.{Binding}
+use Rattle.std.proofs.Common.{◌≡◌, refl, Some, [], ◌∷◌, true, ap}
 use Rattle.js_semantics.specs.Environments.{env_cell, unready}
 use Rattle.js_step_object.proofs.Going.{alloc_ok, alloc_err}
 use Rattle.js_step_object.proofs.functions.name_environment.Goals as goal

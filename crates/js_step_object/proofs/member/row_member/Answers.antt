@@ -1,4 +1,3 @@
-use Rattle.std.proofs.Common.{Some, ap, ◌∙◌}
 use Rattle.std.specs.Prelude.{slice_get}
 use Rattle.js_names.specs.Patterns.{nodes_of}
 use Rattle.js_step_object.proofs.Membership.{keyed_is}
