@@ -53,10 +53,6 @@ unfolding make_object
 object_err nodes proto old new stop next is made told = λ k.
     rw told (stops_make nodes (λ w. Object (bare ObjectPrototype w)) (Object (record { proto = proto; properties = []; extensible = true })) k old new stop (λ supply. ap (λ o. Object (record { proto = o; properties = []; extensible = true })) (sym (is supply))) made)
 
--- what is made first, and then what ends the row
-pub made_then : (nodes : List Node) (f : (ℕ → Prog ℕ) → Prog ℕ) (k : ℕ → Prog ℕ) (old mid new : State) (loc : ℕ) (next : Next) → Makes nodes f old mid (Ok loc) → Does nodes 2 (k loc) mid new next → Does nodes 2 (f k) old new next
-made_then nodes f k old mid new loc next made h = does_move nodes 2 (f k) (k loc) old mid new next (made k) h
-
 -- a function with its prototype object
 module _ (nodes : List Node) (node : NodeId) (env : ℕ) (old mid late new : State) (loc proto : ℕ) (closed : Makes nodes (λ k. make_closure node env None k) old mid (Ok loc)) where
   pub function_first : (next : Next) → Makes nodes (λ k. make_object k) mid new (Err next) → Makes nodes (λ k. make_function node env k) old new (Err next)
