@@ -1,2 +1,6 @@
-pub mod Lists
+pub mod Behind
+pub mod Changing
+pub mod Choosing
 pub mod Looping
+pub mod Making
+pub mod Stacking

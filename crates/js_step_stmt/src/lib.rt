@@ -26,6 +26,3 @@ pub use simple::{
     throw_end,
 };
 pub use turns::{for_body_end, for_start, row_for};
-
-#[cfg(test)]
-mod tests;

@@ -8,7 +8,7 @@ use js_tree::{BindElement, Declarator, Node, NodeId, Tree};
 use std::alloc::Global;
 
 /// The node with a number, where it stands.
-#[tactic(auto, using(crate::proofs::Lists::node_some, crate::proofs::Lists::node_none))]
+#[tactic(auto, using(crate::proofs::Behind::node_some, crate::proofs::Behind::node_none))]
 pub fn node_at(tree: &Tree, id: NodeId) -> Option<&Node>
     ensures { MatchOption result (slice_get (nodes_of tree.now) id.0 ≡ None) (λ node. slice_get (nodes_of tree.now) id.0 ≡ Some node.now) }
 {
@@ -92,7 +92,7 @@ pub fn elements_of(tree: &Tree, node: NodeId) -> &[BindElement]
 }
 
 /// What stands at a place of a list, and the place behind it.
-#[tactic(auto, using(crate::proofs::Lists::drop_some, crate::proofs::Lists::drop_none))]
+#[tactic(auto, using(crate::proofs::Behind::drop_some, crate::proofs::Behind::drop_none))]
 pub fn next_of<T: Copy>(list: &[T], at: usize) -> Option<(T, usize)>
     ensures { MatchOption result (drop at list.now ≡ []) (λ found. (drop at list.now ≡ found.0 ∷ drop found.1 list.now) × (found.1 ≡ at + 1)) }
 {

@@ -1,5 +1,5 @@
 //! The environments of a `for` (ECMA-262, 14.7.4): those of its turns, and the one of its declaration.
-ghost use Rattle.std.specs.Prelude.{◌≡◌, ◌∷◌, [], List, IfOk, Some, false, slice_get};
+ghost use Rattle.std.specs.Prelude.{◌≡◌, ◌∷◌, [], List, IfOk, Some, false, not, nat_eq, length, slice_get};
 ghost use Rattle.js_tree.specs.declared.node.Node as kind;
 ghost use Rattle.js_names.specs.Patterns.{nodes_of};
 ghost use Rattle.js_semantics.specs.Environments.{declared_in, env_cell};
@@ -115,6 +115,13 @@ fn bindings_of(state: &State, tree: &Tree, first: NodeId) -> Result<Items<Bindin
     Ok(declared_in(state.alloc, tree, &[first])?)
 }
 
+// Whether there is a binding.
+fn declares(bindings: &Items<Binding>) -> bool
+    ensures { result ≡ not (nat_eq (length bindings.now) 0) }
+{
+    bindings.len() != 0
+}
+
 // What stands first in a `for`, by its node: only a declaration has an environment, and only that of `let` is copied for
 // each turn.
 fn for_node(
@@ -132,7 +139,7 @@ fn for_node(
     match node {
         Node::Let(_) => {
             let bindings = bindings_of(state, tree, first)?;
-            let copied = !bindings.is_empty();
+            let copied = declares(&bindings);
             declared_first(state, first, bindings, ForLoop { copied, ..turn }, scope)
         }
         Node::Const(_) => {
