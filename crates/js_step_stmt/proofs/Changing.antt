@@ -67,6 +67,6 @@ pub fill_keys : (env : ℕ) (name : List ℕ) (v : Value ℕ) (w : World ℕ) �
 unfolding fill_name
 fill_keys env name v w = go (binding_of env name w)
   where
-    go : (o : Option (ℕ × Binding ℕ)) → keys (elim o [ Some found ↦ bind_in found.0 name v w | None ↦ w ]).heap ≡ keys w.heap
+    go : (o : Option (ℕ × Binding ℕ)) → keys (elim o as (λ (x : Option (ℕ × Binding ℕ)). World ℕ) [ Some found ↦ bind_in found.0 name v w | None ↦ w ]).heap ≡ keys w.heap
     go None = refl
     go (Some found) = bind_keys found.0 name v w

@@ -20,8 +20,8 @@ use Rattle.js_semantics.specs.Prog.{Prog, End, Enter, ForOf, Node as NodeRequest
 use Rattle.js_semantics.specs.World.{cell_at}
 use Rattle.js_semantics.specs.Iteration.{items_at}
 use Rattle.js_semantics.specs.Access.{bind_value, or_default}
-use Rattle.js_semantics.specs.Environments.{declared_by, declared_in, env_cell, names_of, unready}
-use Rattle.js_semantics.specs.Statements.{bind_array_at, bind_elements, declare_pairs, for_from, for_start, inside, item_or_undefined, names_by, run_items}
+use Rattle.js_semantics.specs.Environments.{bindings_at, declared_by, declared_in, env_cell, names_of, unready}
+use Rattle.js_semantics.specs.Statements.{copied_cell, copy_scope, bind_array_at, bind_elements, declare_pairs, for_from, for_start, inside, item_or_undefined, names_by, run_items}
 use Rattle.js_machine.specs.Frames.{declared_rest, element_bound}
 use Rattle.js_step_stmt.specs.Passing.{DefaultsTo, is_array_cell}
 
@@ -41,8 +41,8 @@ default_other (Some node) other differs = λ scope k. refl
 pub items_some : (xs rest : List NodeId) (item : NodeId) (scope : Scope ℕ) → xs ≡ item ∷ rest → run_items xs scope ≡ Enter (NodeRequest item scope) (λ o. on_value (λ u. run_items rest scope) o)
 items_some xs rest item scope is = rw is refl
 
-pub declare_some : (xs rest : List Declarator) (pair : Declarator) (value : NodeId) (scope : Scope ℕ) → xs ≡ pair ∷ rest → pair.value ≡ Some value → declare_pairs xs scope ≡ Enter (NodeRequest value scope) (λ o. on_value (λ v. declared_rest xs scope v) o)
-declare_some xs rest pair value scope is here = rw (is, here) refl
+pub declare_some : (nodes : List Node) (xs rest : List Declarator) (pair : Declarator) (value : NodeId) (scope : Scope ℕ) → xs ≡ pair ∷ rest → pair.value ≡ Some value → declare_pairs xs scope ≡ Enter (NodeRequest value scope) (λ o. on_value (λ v. declared_rest nodes xs scope v) o)
+declare_some nodes xs rest pair value scope is here = rw (is, here) refl
 
 -- the names that a declaration binds
 map_flat : {X A B : Type 0} (f : A → B) (g : X → List A) (xs : List X) → map f (flat_map g xs) ≡ flat_map (λ x. map f (g x)) xs
@@ -105,8 +105,8 @@ next_is list xs at next x is h = rw (← is, ← h.1) h.0
 pub elements_some : (xs rest : List BindElement) (part : BindElement) (at array : ℕ) (scope : Scope ℕ) → xs ≡ part ∷ rest → bind_elements xs at array scope ≡ Read (λ w. or_default part.default (item_or_undefined (slice_get (items_at (cell_at array w)) at)) scope (λ y. bind_value part.bind y scope (bind_elements rest (at + 1) array scope)))
 elements_some xs rest part at array scope is = rw is refl
 
-pub element_default : (xs rest : List BindElement) (part : BindElement) (at array : ℕ) (scope : Scope ℕ) (node : NodeId) → xs ≡ part ∷ rest → eval node scope (λ y. bind_value part.bind y scope (bind_elements rest (at + 1) array scope)) ≡ Enter (NodeRequest node scope) (λ o. on_value (λ v. element_bound xs at array scope v) o)
-element_default xs rest part at array scope node is = rw is refl
+pub element_default : (nodes : List Node) (xs rest : List BindElement) (part : BindElement) (at array : ℕ) (scope : Scope ℕ) (node : NodeId) → xs ≡ part ∷ rest → eval node scope (λ y. bind_value part.bind y scope (bind_elements rest (at + 1) array scope)) ≡ Enter (NodeRequest node scope) (λ o. on_value (λ v. element_bound nodes xs at array scope v) o)
+element_default nodes xs rest part at array scope node is = rw is refl
 
 -- a turn of a `for` over an array, where it has an item more, and where it hasn't
 module _ (tree : List Node) (constant : Bool) (pattern body : NodeId) (array place : ℕ) (around : Scope ℕ) where
@@ -121,3 +121,7 @@ module _ (tree : List Node) (constant : Bool) (pattern body : NodeId) (array pla
 
   pub of_none : (found : Option (Value ℕ)) → found ≡ None → turn_of found ≡ done
   of_none found is = rw is refl
+
+-- the environment of a turn is copied, where the loop has one for each turn
+pub copied_true : (copied : Bool) (scope : Scope ℕ) (k : Scope ℕ → Prog ℕ) → copied ≡ true → copy_scope copied scope k ≡ Read (λ w. copied_cell (bindings_at (cell_at scope.env w)) scope k)
+copied_true copied scope k is = rw is refl

@@ -7,6 +7,9 @@ use Rattle.js_tree.specs.declared.node.NodeId.{NodeId}
 use Rattle.js_semantics.specs.declared.scope.Scope.{Scope}
 use Rattle.js_semantics.specs.Access.{or_default}
 use Rattle.js_tree.specs.declared.node.Node.{Node}
+use Rattle.js_tree.specs.declared.node.Node.TheVariants as kinds
+use Rattle.js_machine.specs.declared.frame.StatementFrame.{StatementFrame}
+use Rattle.js_machine.specs.declared.frame.StatementFrame.TheVariants as frames
 use Rattle.js_semantics.specs.declared.entry.Product.TheVariants.{Stopped}
 use Rattle.js_semantics.specs.declared.entry.Stop.{Stop}
 use Rattle.js_semantics.specs.Prog.{Prog, eval}
@@ -28,3 +31,27 @@ DefaultsTo default v (Some node) = (scope : Scope ℕ) (k : Value ℕ → Prog �
 abbrev pub is_array_cell : Option (Cell ℕ) → Bool
 is_array_cell (Some (Array proto items frozen)) = true
 is_array_cell other = false
+
+-- whether a frame is that of the list of a `for`
+abbrev pub walks_list : StatementFrame ℕ → Bool
+walks_list (frames.ForOfList constant pattern body scope) = true
+walks_list other = false
+
+-- whether a node is a statement, and no block (ECMA-262, 14: Statement and Declaration)
+abbrev pub is_statement : Node → Bool
+is_statement (kinds.Let pairs) = true
+is_statement (kinds.Const pairs) = true
+is_statement (kinds.FunDecl name function) = true
+is_statement (kinds.If test first second) = true
+is_statement (kinds.While test body) = true
+is_statement (kinds.DoWhile body test) = true
+is_statement (kinds.For first test next body) = true
+is_statement (kinds.ForOf constant pattern list body) = true
+is_statement (kinds.Return value) = true
+is_statement kinds.Break = true
+is_statement kinds.Continue = true
+is_statement (kinds.Throw value) = true
+is_statement (kinds.Try block pattern handler last) = true
+is_statement kinds.Empty = true
+is_statement (kinds.ExprStmt value) = true
+is_statement other = false

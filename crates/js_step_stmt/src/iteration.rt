@@ -4,7 +4,7 @@ ghost use Rattle.js_tree.specs.declared.node.Node as kind;
 ghost use Rattle.js_names.specs.Patterns.{nodes_of};
 ghost use Rattle.js_semantics.specs.Environments.{env_cell};
 ghost use Rattle.js_semantics.specs.Prog.{End, Enter, ForOf, alloc};
-ghost use Rattle.js_semantics.specs.Statements.{inside, of_turn};
+ghost use Rattle.js_semantics.specs.Statements.{inside, of_turn, row_for_of};
 ghost use Rattle.js_machine.specs.Does.{Does};
 ghost use Rattle.js_machine.specs.Frames.{rest, statement_rest};
 
@@ -25,6 +25,27 @@ pub struct Walk {
     pub bind: NodeId,
     pub body: NodeId,
     pub array: Loc,
+}
+
+/// A `for` over a list (ECMA-262, 14.7.5), from its list on.
+pub fn row_for_of(
+    state: &mut State,
+    constant: bool,
+    bind: NodeId,
+    list: NodeId,
+    body: NodeId,
+    scope: Scope,
+) -> Result<Next, StepFault>
+    ensures { (nodes : List kind.Node) → IfOk result (λ next. Does nodes 6 (row_for_of constant bind list body scope) state.old state.new next) }
+{
+    let inner = copy_scope(state.alloc, &scope)?;
+    let frame = StatementFrame::ForOfList {
+        constant,
+        bind,
+        body,
+        scope,
+    };
+    state.enter(statement(frame), list, inner)
 }
 
 // Binds the item of a turn.

@@ -154,9 +154,9 @@ pub fn bind_elements(
     ensures { IfOk result (λ made. Does (nodes_of tree.now) 6 (bind_elements (drop at (elements_of (slice_get (nodes_of tree.now) node.0))) at array scope) state.old state.new made) }
 {
     match next_of(elements_of(tree, node), at) {
-        Some((part, _)) => {
+        Some(found) => {
             let value = value_of(item_at(state.alloc, &state.heap, array, at)?);
-            element(state, part, node, at, array, scope, value)
+            element(state, found.0, node, at, array, scope, value)
         }
         None => done(state),
     }

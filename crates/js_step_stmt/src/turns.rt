@@ -47,7 +47,7 @@ fn copied_turn(
 {
     if turn.copied {
         match environment_at(state.alloc, &state.heap, scope.env)? {
-            Some((outer, bindings)) => in_copy(state, turn, then, outer, bindings, scope),
+            Some(found) => in_copy(state, turn, then, found.0, found.1, scope),
             None => step_then(state, turn, then, scope),
         }
     } else {
@@ -72,7 +72,8 @@ pub fn for_body_end(
     ensures { (nodes : List kind.Node) → IfOk result (λ next. Does nodes 6 (rest nodes (Frame.ForBody turn scope) outcome) state.old state.new next) }
 {
     match outcome {
-        Outcome::Normal(_) | Outcome::Continue => copied_turn(state, turn, turn.next, scope),
+        Outcome::Normal(_) => copied_turn(state, turn, turn.next, scope),
+        Outcome::Continue => copied_turn(state, turn, turn.next, scope),
         Outcome::Break => done(state),
         Outcome::Return(value) => state.give(Outcome::Return(value)),
         Outcome::Thrown(value) => state.give(Outcome::Thrown(value)),
