@@ -33,7 +33,7 @@ unfolding run
 moves_change nodes f p old mid heap is rest to same =
     let w : (ℕ → ℕ) → World ℕ = λ supply. world_of nodes supply old in
     let there : (supply : ℕ → ℕ) → f (w supply) ≡ world_of nodes supply (record old { heap = record old.heap { cells = heap.cells } }) =
-        λ supply. sym (to (w supply)) ∙ ap (λ (h : HeapView). over h (w supply)) rest in
+    λ supply. sym (to (w supply)) ∙ ap (λ (h : HeapView). over h (w supply)) rest in
     let alike : keys heap.cells ≡ keys old.heap.cells = ap (λ (v : World ℕ). keys v.heap) (to (w (λ n. n))) ∙ same (over old.heap (w (λ n. n))) in
     rw (is, rest) (record {
       law = λ supply ds k follows. ap (λ v. run ds (budget_of old) v (bind p k)) (there supply);

@@ -23,7 +23,7 @@ use Rattle.js_semantics.specs.Access.{bind_value, or_default}
 use Rattle.js_semantics.specs.Environments.{bindings_at, declared_by, declared_in, env_cell, names_of, unready}
 use Rattle.js_semantics.specs.Statements.{copied_cell, copy_scope, bind_array_at, bind_elements, declare_pairs, for_from, for_start, inside, item_or_undefined, names_by, run_items}
 use Rattle.js_machine.specs.Frames.{declared_rest, element_bound}
-use Rattle.js_step_stmt.specs.Passing.{DefaultsTo, is_array_cell}
+use Rattle.js_step_stmt.specs.Choices.{DefaultsTo, is_array_cell}
 
 -- the default of what is undefined
 pub default_undefined : (default : Option NodeId) → DefaultsTo default Undefined default

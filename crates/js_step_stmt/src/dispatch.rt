@@ -4,7 +4,7 @@ ghost use Rattle.js_names.specs.Patterns.{nodes_of};
 ghost use Rattle.js_semantics.specs.Rows.{row_of};
 ghost use Rattle.js_machine.specs.Does.{Does};
 ghost use Rattle.js_machine.specs.Frames.{statement_rest};
-ghost use Rattle.js_step_stmt.specs.Passing.{is_statement, walks_list};
+ghost use Rattle.js_step_stmt.specs.Choices.{is_statement, walks_list};
 
 use crate::attempt::row_try;
 use crate::declaration::{declare_pairs, declared_value};

@@ -78,12 +78,7 @@ pub fn while_body_end(
 }
 
 // A turn of a `do`, from its body on.
-fn enter_do(
-    state: &mut State,
-    body: NodeId,
-    test: NodeId,
-    scope: Scope,
-) -> Result<Next, StepFault>
+fn enter_do(state: &mut State, body: NodeId, test: NodeId, scope: Scope) -> Result<Next, StepFault>
     ensures { (nodes : List kind.Node) → IfOk result (λ next. Does nodes 6 (Enter (DoWhile body test scope) (λ o. End o)) state.old state.new next) }
 {
     let inner = copy_scope(state.alloc, &scope)?;
@@ -104,12 +99,7 @@ pub fn row_do_while(
 }
 
 // The test of a `do`.
-fn test_do(
-    state: &mut State,
-    body: NodeId,
-    test: NodeId,
-    scope: Scope,
-) -> Result<Next, StepFault>
+fn test_do(state: &mut State, body: NodeId, test: NodeId, scope: Scope) -> Result<Next, StepFault>
     ensures { (nodes : List kind.Node) → IfOk result (λ next. Does nodes 6 (rest nodes (Frame.DoBody body test scope) Outcome.Continue) state.old state.new next) }
 {
     let inner = copy_scope(state.alloc, &scope)?;
@@ -158,7 +148,11 @@ pub fn enter_for(state: &mut State, turn: ForLoop, scope: Scope) -> Result<Next,
 {
     let inner = copy_scope(state.alloc, &scope)?;
     match turn.test {
-        Some(test) => state.enter(statement(StatementFrame::ForTest { turn, scope }), test, inner),
+        Some(test) => state.enter(
+            statement(StatementFrame::ForTest { turn, scope }),
+            test,
+            inner,
+        ),
         None => state.enter(Frame::ForBody { turn, scope }, turn.body, inner),
     }
 }
@@ -192,7 +186,11 @@ pub fn step_then(
     match then {
         Some(node) => {
             let inner = copy_scope(state.alloc, &scope)?;
-            state.enter(statement(StatementFrame::ForNext { turn, scope }), node, inner)
+            state.enter(
+                statement(StatementFrame::ForNext { turn, scope }),
+                node,
+                inner,
+            )
         }
         None => enter_for(state, turn, scope),
     }

@@ -9,7 +9,7 @@ ghost use Rattle.js_semantics.specs.Iteration.{items_at};
 ghost use Rattle.js_semantics.specs.Prog.{change, done};
 ghost use Rattle.js_semantics.specs.Statements.{bind_array, bind_elements, item_or_undefined};
 ghost use Rattle.world_heap.specs.declared.value.Value.TheVariants.{Ref};
-ghost use Rattle.js_step_stmt.specs.Passing.{DefaultsTo, is_array_cell};
+ghost use Rattle.js_step_stmt.specs.Choices.{DefaultsTo, is_array_cell};
 ghost use Rattle.js_machine.specs.Does.{Does};
 ghost use Rattle.js_machine.specs.Parts.{elements_of};
 ghost use Rattle.js_machine.specs.Frames.{pattern_rest};

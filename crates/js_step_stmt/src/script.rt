@@ -12,8 +12,8 @@ ghost use Rattle.js_machine.specs.Frames.{rest};
 use js_display::line_of;
 use js_machine::{Control, Frame, Next, State, stopped};
 use js_semantics::{Mode, Outcome, Product, StepFault, Stop};
-use world_heap::Value;
 use wl_text::Units;
+use world_heap::Value;
 
 // The task is done.
 fn rested(state: &mut State) -> Result<Next, StepFault>

@@ -66,11 +66,7 @@ pub fn row_if(
 }
 
 /// A statement, or nothing.
-pub fn run_or_done(
-    state: &mut State,
-    node: Option<NodeId>,
-    scope: Scope,
-) -> Result<Next, StepFault>
+pub fn run_or_done(state: &mut State, node: Option<NodeId>, scope: Scope) -> Result<Next, StepFault>
     ensures { (nodes : List kind.Node) → IfOk result (λ next. Does nodes 6 (run_or_done node scope) state.old state.new next) }
 {
     match node {
@@ -98,11 +94,7 @@ pub fn if_end(
 
 /// A `return` (ECMA-262, 14.10).
 #[tactic(auto, unfolding(js_semantics::specs::Statements::row_return))]
-pub fn row_return(
-    state: &mut State,
-    value: Option<NodeId>,
-    scope: Scope,
-) -> Result<Next, StepFault>
+pub fn row_return(state: &mut State, value: Option<NodeId>, scope: Scope) -> Result<Next, StepFault>
     ensures { (nodes : List kind.Node) → IfOk result (λ next. Does nodes 6 (row_return value scope) state.old state.new next) }
 {
     match value {

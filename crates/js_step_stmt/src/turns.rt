@@ -90,7 +90,11 @@ fn first_of(
     ensures { (nodes : List kind.Node) → IfOk result (λ next. Does nodes 6 (Enter (NodeRequest first scope) (λ o. on_value (λ v. for_start turn.copied turn.test turn.next turn.body scope) o)) state.old state.new next) }
 {
     let inner = copy_scope(state.alloc, &scope)?;
-    state.enter(statement(StatementFrame::ForFirst { turn, scope }), first, inner)
+    state.enter(
+        statement(StatementFrame::ForFirst { turn, scope }),
+        first,
+        inner,
+    )
 }
 
 // A declaration that stands first, in an environment with its names.

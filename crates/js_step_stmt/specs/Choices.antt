@@ -1,5 +1,5 @@
--- What a part of a row does that makes or changes cells and enters nothing.
-use Rattle.std.specs.Prelude.{◌≡◌, ℕ, List, Result, Ok, Err, Bool, true, false, Option, Some, None}
+-- Which way a row goes.
+use Rattle.std.specs.Prelude.{◌≡◌, ℕ, Bool, true, false, Option, Some, None}
 use Rattle.world_heap.specs.declared.value.Value.{Value}
 use Rattle.world_heap.specs.declared.cell.Cell.{Cell}
 use Rattle.world_heap.specs.declared.cell.Cell.TheVariants.{Array}
@@ -10,17 +10,7 @@ use Rattle.js_tree.specs.declared.node.Node.{Node}
 use Rattle.js_tree.specs.declared.node.Node.TheVariants as kinds
 use Rattle.js_machine.specs.declared.frame.StatementFrame.{StatementFrame}
 use Rattle.js_machine.specs.declared.frame.StatementFrame.TheVariants as frames
-use Rattle.js_semantics.specs.declared.entry.Product.TheVariants.{Stopped}
-use Rattle.js_semantics.specs.declared.entry.Stop.{Stop}
 use Rattle.js_semantics.specs.Prog.{Prog, eval}
-use Rattle.js_machine.specs.declared.state.State.{State}
-use Rattle.js_machine.specs.declared.state.Next.TheVariants.{Made}
-use Rattle.js_machine.specs.Does.{Does, Moves}
-
--- A part of a row comes to whatever follows it, or the world stops.
-abbrev pub Passes : {A : Type 0} → List Node → (Prog ℕ → Prog ℕ) → State → State → Result A Stop → Type 0
-Passes nodes part old new (Ok u) = (p : Prog ℕ) → Moves nodes (part p) old p new
-Passes nodes part old new (Err stop) = (p : Prog ℕ) → Does nodes 1 (part p) old new (Made (Stopped stop))
 
 -- What is evaluated for a value that may be replaced by a default: the default, or nothing.
 abbrev pub DefaultsTo : Option NodeId → Value ℕ → Option NodeId → Type 0
