@@ -28,7 +28,7 @@ pub use loops::{
 pub use patterns::{bind_array, bind_elements, bind_name, element_defaulted};
 pub use script::script_end;
 pub use simple::{
-    done, expression_end, if_end, return_end, row_expression, row_if, row_return, row_throw, run_or_done,
-    throw_end,
+    done, expression_end, if_end, return_end, row_expression, row_if, row_return, row_throw,
+    run_or_done, throw_end,
 };
 pub use turns::{for_body_end, for_start, row_for};
