@@ -1,5 +1,5 @@
 -- What a change of the heap's cells is to a row.
-use Rattle.std.proofs.Common.{◌≡◌, ℕ, zero, suc, List, [], ◌∷◌, Result, IfOk, Option, Some, None, Bool, true, false, if◌then◌else◌, nat_eq, refl, sym, ap, ◌∙◌, arith}
+use Rattle.std.proofs.Common.{◌≡◌, ℕ, suc, List, [], ◌∷◌, Result, IfOk, Option, Some, None, Bool, true, false, if◌then◌else◌, refl, sym, ap, ◌∙◌, arith}
 use Rattle.js_tree.specs.declared.node.Node.{Node}
 use Rattle.world_heap.specs.declared.value.Value.{Value}
 use Rattle.world_heap.specs.declared.cell.Binding.{Binding}
@@ -9,7 +9,7 @@ use Rattle.world_heap.specs.Maps.{keys, put}
 use Rattle.world_heap.specs.Views.{HeapView}
 use Rattle.js_semantics.specs.declared.fault.StepFault.{StepFault}
 use Rattle.js_semantics.specs.World.{World, over, cell_at}
-use Rattle.js_semantics.specs.Prog.{Prog, Read, Write, change, bind}
+use Rattle.js_semantics.specs.Prog.{Prog, change, bind}
 use Rattle.js_semantics.specs.Environments.{bind_in, binding_of, bound_in, fill_name, rebound}
 use Rattle.js_semantics.specs.Run.{run}
 use Rattle.js_machine.specs.declared.state.State.{State}
