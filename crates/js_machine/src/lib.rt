@@ -10,6 +10,7 @@ mod state;
 mod throwing;
 
 pub use basic::stopped;
+pub use fitting::{is_fit, is_prototype};
 pub use frame::{
     AfterFrame, CallFrame, CallTarget, ForLoop, Frame, Key, LiteralFrame, OperandFrame,
     PatternFrame, Place, PropertyFrame, StatementFrame, Use, ValueFrame,

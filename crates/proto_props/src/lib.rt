@@ -20,6 +20,7 @@ pub use get::{Got, get_step};
 pub use outcome::{Refusal, SetDone};
 pub use remove::delete;
 pub use setting::set_step;
+pub use writing::{add_property, push_item, put_property};
 
 #[cfg(test)]
 mod tests;
