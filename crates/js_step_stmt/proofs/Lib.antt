@@ -1,0 +1,7 @@
+pub mod Behind
+pub mod Changing
+pub mod Choosing
+pub mod Ending
+pub mod Looping
+pub mod Making
+pub mod Stacking

@@ -1,0 +1,12 @@
+use Rattle.std.proofs.Common.{refl, arith}
+use Rattle.js_step_stmt.proofs.Making.{made_ok, made_err}
+use Rattle.js_semantics.specs.Statements.{inside}
+use Rattle.js_semantics.specs.Access.{bind_value}
+use Rattle.js_semantics.specs.Prog.{End, Enter, Node as NodeRequest}
+use Rattle.js_step_stmt.proofs.attempt.handle_in.Goals as goal
+
+pub returns-in-Ok : goal.returns-in-Ok
+returns-in-Ok c nodes = made_ok nodes 6 _ (λ env. bind_value c.args.pattern c.args.value (inside env c.args.scope) (Enter (NodeRequest c.args.handler (inside env c.args.scope)) (λ o. End o))) _ _ _ c.in-Ok.env _ _ refl c.in-Ok.is c.in_ok-env.ensures (rw c.inside.ensures at (c.bind_caught.ensures nodes))
+
+pub returns-in-Err : goal.returns-in-Err
+returns-in-Err c nodes = made_err nodes 6 _ (λ env. bind_value c.args.pattern c.args.value (inside env c.args.scope) (Enter (NodeRequest c.args.handler (inside env c.args.scope)) (λ o. End o))) _ _ c.in-Err.stop _ _ (omega arith) c.in-Err.is c.in_ok-env.ensures c.stopped.ensures

@@ -1,0 +1,5 @@
+use Rattle.js_step_stmt.proofs.Looping.{does_of_ok}
+use Rattle.js_step_stmt.proofs.iteration.bind_item.Goals as goal
+
+pub returns : goal.returns
+returns c nodes = does_of_ok nodes 6 c.args.walk.constant c.args.walk.bind c.args.walk.body c.args.walk.array c.args.place c.args.item c.args.turn c.args.around _ _ _ (rw (c.statement.ensures, c.in_ok-inner.ensures) at (c.bind.ensures.many nodes))

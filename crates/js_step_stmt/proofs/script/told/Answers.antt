@@ -1,0 +1,7 @@
+use Rattle.js_step_stmt.proofs.Ending.{does_tell}
+use Rattle.js_semantics.specs.declared.entry.Mode.TheVariants.{Idle}
+use Rattle.js_semantics.specs.declared.entry.Product.TheVariants.{Uncaught}
+use Rattle.js_step_stmt.proofs.script.told.Goals as goal
+
+pub returns : goal.returns
+returns c nodes = does_tell nodes Idle (Uncaught c.args.text) c.args.state.now _ c.turn_to.ensures

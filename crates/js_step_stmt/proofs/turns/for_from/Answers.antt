@@ -1,0 +1,6 @@
+use Rattle.js_step_stmt.proofs.Choosing.{for_none}
+use Rattle.js_names.specs.Patterns.{nodes_of}
+use Rattle.js_step_stmt.proofs.turns.for_from.Goals as goal
+
+pub returns-in-None : goal.returns-in-None
+returns-in-None c = rw (for_none (nodes_of c.args.tree.now) c.args.first c.args.turn.test c.args.turn.next c.args.turn.body c.args.scope _ c.in-None.ensures) (rw c.requires at (c.first_of.ensures (nodes_of c.args.tree.now)))
