@@ -1,5 +1,5 @@
 -- How an error is thrown.
-use Rattle.std.proofs.Common.{◌≡◌, ℕ, ◌≤◌, Ok, Err, Some, None, Option, List, IfOk, Result, refl}
+use Rattle.std.proofs.Common.{◌≡◌, ℕ, ◌≤◌, Ok, Err, Some, None, Option, List, true, IfOk, Result, refl}
 use Rattle.js_tree.specs.declared.node.Node.{Node}
 use Rattle.world_heap.specs.declared.value.Value.TheVariants.{Ref}
 use Rattle.js_semantics.specs.declared.entry.Stop.{Stop}
