@@ -1,3 +1,6 @@
 mod Lists
 mod Defaulted
 mod Called
+mod Reading
+mod Joining
+mod Storing

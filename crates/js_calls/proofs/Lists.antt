@@ -1,6 +1,7 @@
 -- Lists from a place on, and nodes by their numbers.
-use Rattle.std.proofs.Common.{◌≡◌, ℕ, zero, suc, ◌+◌, ◌<◌, ◌≤◌, List, [], ◌∷◌, length, drop, get_or, Option, Some, None, refl, sym, ap, ◌∙◌, arith, add-one}
+use Rattle.std.proofs.Common.{◌≡◌, ℕ, zero, suc, ◌+◌, ◌<◌, ◌≤◌, List, [], ◌∷◌, length, drop, take, ◌-◌, get_or, Option, Some, None, refl, sym, ap, ◌∙◌, arith, add-one}
 use Rattle.std.specs.Prelude.{slice_get, option_map}
+use Rattle.std.proofs.lemmas.List.{take_rest}
 use Rattle.std.proofs.lemmas.Option.{slice_get-map, slice_get_past}
 use Rattle.js_tree.specs.declared.node.Node.{Node}
 use Rattle.js_tree.specs.Nodes.{Nodes, node_at}
@@ -27,3 +28,7 @@ node_some nodes id node h = node_is nodes id ∙ h
 
 pub node_none : (nodes : Nodes) (id : ℕ) → length nodes ≤ id → slice_get (nodes_of nodes) id ≡ None
 node_none nodes id h = slice_get-map (λ n. n.0) nodes id ∙ ap (λ o. option_map (λ n. n.0) o) (slice_get_past nodes id h)
+
+-- all that stands from a place on
+pub drop_rest : {A : Type 0} (xs : List A) (i : ℕ) → take (length xs - i) (drop i xs) ≡ drop i xs
+drop_rest xs i = take_rest xs i

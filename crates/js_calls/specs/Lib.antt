@@ -1,3 +1,5 @@
 pub mod Callees
 pub mod Defaults
 pub mod Calling
+pub mod Reading
+pub mod Writing

@@ -34,7 +34,7 @@ fn copy_kept(alloc: Global, value: &Option<Value>) -> Result<Option<Value>, Step
 
 // The function that a cell is.
 #[tactic(auto, unfolding(crate::specs::Callees::callee_in))]
-fn callee_of(alloc: Global, cell: &Cell) -> Result<Callee, StepFault>
+fn cell_callee(alloc: Global, cell: &Cell) -> Result<Callee, StepFault>
     ensures { IfOk result (λ callee. callee ≡ callee_in (Some cell.now)) }
 {
     match cell {
@@ -61,12 +61,12 @@ fn callee_of(alloc: Global, cell: &Cell) -> Result<Callee, StepFault>
 /// # Errors
 /// `Memory` where there is none.
 #[tactic(auto, unfolding(crate::specs::Callees::callee_in))]
-pub fn callee(alloc: Global, heap: &Heap, value: &Value) -> Result<Callee, StepFault>
+pub fn callee_of(alloc: Global, heap: &Heap, value: &Value) -> Result<Callee, StepFault>
     ensures { (w : World ℕ) → IfOk result (λ callee. callee ≡ callee_in (cell_of value.now (over heap.now w))) }
 {
     match value {
         Value::Ref(loc) => match heap.get(*loc) {
-            Some(cell) => callee_of(alloc, cell),
+            Some(cell) => cell_callee(alloc, cell),
             None => Ok(Callee::Other),
         },
         _ => Ok(Callee::Other),

@@ -1,5 +1,5 @@
 //! The functions of a tree, and the parts of them.
-ghost use Rattle.std.specs.Prelude.{◌≡◌, ◌+◌, ◌×◌, [], ◌∷◌, drop, slice_get, Some, None, MatchOption};
+ghost use Rattle.std.specs.Prelude.{◌≡◌, ◌+◌, [], ◌∷◌, drop, slice_get, Some, None, MatchOption};
 ghost use Rattle.js_names.specs.Patterns.{nodes_of};
 ghost use Rattle.js_semantics.specs.Access.{function_of};
 ghost use Rattle.js_machine.specs.Parts.{body_node, parameters_from, rest_parameter};

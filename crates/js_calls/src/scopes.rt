@@ -1,10 +1,8 @@
 //! Scopes and values once more.
-ghost use Rattle.std.specs.Prelude.{◌≡◌, IfOk, drop};
-ghost use Rattle.js_semantics.specs.Access.{first_of};
+ghost use Rattle.std.specs.Prelude.{◌≡◌, IfOk};
 
 use js_semantics::{Scope, StepFault};
 use std::alloc::Global;
-use world_heap::Value;
 
 /// The same scope again. The cost is constant, but where its receiver is a string linear in the units.
 pub fn copy_scope(alloc: Global, scope: &Scope) -> Result<Scope, StepFault>
@@ -16,3 +14,6 @@ pub fn copy_scope(alloc: Global, scope: &Scope) -> Result<Scope, StepFault>
         receiver,
     })
 }
+
+/// Lets a value go. A generic function keeps the cases of its drop out of its callers' proofs.
+pub fn discard<T: Drop>(_value: T) {}

@@ -8,9 +8,10 @@ ghost use Rattle.js_machine.specs.Does.{Does, weight};
 ghost use Rattle.js_machine.specs.Frames.{after_rest, parameters_rest};
 ghost use Rattle.js_calls.specs.Calling.{after_frame, allowance, by_callee, call_frames, ending};
 
-use crate::callee::{Callee, callee};
+use crate::callee::{Callee, callee_of};
 use crate::functions::function_at;
-use crate::parameters::parameters;
+use crate::binding::parameters;
+use crate::scopes::discard;
 use js_machine::{AfterFrame, Frame, Next, State, stopped};
 use js_names::parameters_of;
 use js_semantics::{Fault, Scope, StepFault};
@@ -26,9 +27,6 @@ struct Invocation<L = Loc> {
     receiver: Value<L>,
     arguments: Items<Value<L>>,
 }
-
-// Lets a value go. A generic function keeps the cases of its drop out of its callers' proofs.
-fn discard<T: Drop>(_value: T) {}
 
 // Leaves the frames of a call: what is done with its value, and its end.
 fn push_call(state: &mut State, frame: Option<AfterFrame>) -> Result<(), StepFault>
@@ -120,10 +118,16 @@ fn invoke(
             if state.depth < u64::from(state.heap.limits().depth) {
                 activate(state, tree, function, invocation, frame)
             } else {
+                discard(invocation);
+                discard(frame);
                 state.throw(Fault::TooManyCalls)
             }
         }
-        None => state.throw(Fault::NotAFunction),
+        None => {
+            discard(invocation);
+            discard(frame);
+            state.throw(Fault::NotAFunction)
+        }
     }
 }
 
@@ -177,7 +181,12 @@ fn call_as(
             invoke(state, tree, invocation, frame)
         }
         Callee::Native { id } => state.enter_native(after(frame), id, receiver, arguments),
-        Callee::Other => state.throw(Fault::NotAFunction),
+        Callee::Other => {
+            discard(receiver);
+            discard(arguments);
+            discard(frame);
+            state.throw(Fault::NotAFunction)
+        }
     }
 }
 
@@ -193,7 +202,7 @@ fn call(
     ensures { (n : ℕ) → allowance frame ≤ n
         → IfOk result (λ next. Does (nodes_of tree.now) n (call called.now receiver arguments (ending (nodes_of tree.now) frame)) state.old state.new next) }
 {
-    let callee = callee(state.alloc, &state.heap, called)?;
+    let callee = callee_of(state.alloc, &state.heap, called)?;
     call_as(state, tree, callee, receiver, arguments, frame)
 }
 

@@ -1,8 +1,9 @@
 //! The parameters of a function that is called (ECMA-262, 10.2.11 and 8.6.3).
 ghost use Rattle.std.specs.Prelude.{◌≡◌, ◌+◌, ℕ, [], ◌∷◌, List, drop, slice_get, IfOk, Some, None};
-ghost use Rattle.world_heap.specs.declared.value.Value as values;
+ghost use Rattle.world_heap.specs.declared.value.Value as kept;
 ghost use Rattle.js_tree.specs.declared.node.Node as kind;
 ghost use Rattle.js_names.specs.Patterns.{nodes_of};
+ghost use Rattle.js_semantics.specs.Prog.{Bind, Enter, eval, on_value};
 ghost use Rattle.js_semantics.specs.Access.{bind_value, first_of};
 ghost use Rattle.js_machine.specs.Does.{Does};
 ghost use Rattle.js_machine.specs.Frames.{call_rest, parameter_rest, parameters_rest};
@@ -18,14 +19,39 @@ use sqlite_items::Items;
 use std::alloc::Global;
 use world_heap::Value;
 
-// The frame of a call's part.
-fn part(frame: CallFrame) -> Frame
-    ensures { result ≡ Frame.OnValue (ValueFrame.Call frame) }
+// Enters a node over a frame of a call.
+fn enter_part(
+    state: &mut State,
+    frame: CallFrame,
+    node: NodeId,
+    scope: Scope,
+) -> Result<Next, StepFault>
+    ensures { (nodes : List kind.Node) → IfOk result (λ next. Does nodes 2 (eval node scope (λ v. call_rest nodes frame v)) state.old state.new next) }
 {
-    Frame::OnValue(ValueFrame::Call(frame))
+    state.enter(Frame::OnValue(ValueFrame::Call(frame)), node, scope)
+}
+
+// Enters a pattern with the value that is bound to it, over a frame of a call.
+fn bind_part(
+    state: &mut State,
+    frame: CallFrame,
+    pattern: NodeId,
+    value: Value,
+    scope: Scope,
+) -> Result<Next, StepFault>
+    ensures few { (nodes : List kind.Node) → IfOk result (λ next. Does nodes 2 (Enter (Bind pattern value scope) (λ o. on_value (λ v. call_rest nodes frame v) o)) state.old state.new next) }
+    ensures many { (nodes : List kind.Node) → IfOk result (λ next. Does nodes 6 (Enter (Bind pattern value scope) (λ o. on_value (λ v. call_rest nodes frame v) o)) state.old state.new next) }
+{
+    state.bind(
+        Frame::OnValue(ValueFrame::Call(frame)),
+        pattern,
+        value,
+        scope,
+    )
 }
 
 // The argument at a place; a missing one is undefined.
+#[tactic(auto, using(crate::proofs::Defaulted::first_some, crate::proofs::Defaulted::first_none))]
 fn argument_at(alloc: Global, arguments: &Items<Value>, at: usize) -> Result<Value, StepFault>
     ensures { IfOk result (λ value. value ≡ first_of (drop at arguments.now)) }
 {
@@ -35,7 +61,20 @@ fn argument_at(alloc: Global, arguments: &Items<Value>, at: usize) -> Result<Val
     }
 }
 
+// The same values again.
+fn copy_values(alloc: Global, values: &[Value]) -> Result<Items<Value>, StepFault>
+    ensures { IfOk result (λ copies. copies ≡ values.now) }
+{
+    let mut copies = Items::new(alloc);
+    'values: for value in values {
+        let copy = value.copy(alloc)?;
+        copies.push(copy)?;
+    }
+    Ok(copies)
+}
+
 // The arguments from a place on. The cost is linear in them.
+#[tactic(auto, using(crate::proofs::Lists::drop_none, crate::proofs::Lists::drop_rest))]
 fn arguments_from(
     alloc: Global,
     arguments: &Items<Value>,
@@ -43,11 +82,11 @@ fn arguments_from(
 ) -> Result<Items<Value>, StepFault>
     ensures { IfOk result (λ rest. rest ≡ drop at arguments.now) }
 {
-    let mut rest = Items::new(alloc);
-    'arguments: for value in arguments.as_slice().iter().skip(at) {
-        rest.push(value.copy(alloc)?)?;
+    if at < arguments.len() {
+        copy_values(alloc, &arguments.as_slice()[at..])
+    } else {
+        Ok(Items::new(alloc))
     }
-    Ok(rest)
 }
 
 // What is evaluated for a parameter in place of its argument: the default, where the argument is undefined.
@@ -81,7 +120,7 @@ fn bind_parameter(
         arguments,
         scope,
     };
-    state.bind(part(frame), pattern, value, inner)
+    bind_part(state, frame, pattern, value, inner)
 }
 
 // Binds the argument at a place to its parameter; where it is undefined, the default is evaluated first.
@@ -107,7 +146,7 @@ fn parameter(
                 arguments,
                 scope,
             };
-            state.enter(part(frame), default, inner)
+            enter_part(state, frame, default, inner)
         }
         None => bind_parameter(state, element.bind, value, node, next, arguments, scope),
     }
@@ -130,7 +169,7 @@ fn rest(
         Ok(array) => {
             let inner = copy_scope(state.alloc, &scope)?;
             let frame = CallFrame::RestBound { node, scope };
-            state.bind(part(frame), pattern, Value::Ref(array), inner)
+            bind_part(state, frame, pattern, Value::Ref(array), inner)
         }
         Err(stop) => Ok(stopped(stop)),
     }
@@ -211,7 +250,7 @@ pub fn parameter_bound(
     arguments: Items<Value>,
     scope: Scope,
 ) -> Result<Next, StepFault>
-    ensures { (u : values.Value ℕ) → IfOk result (λ next_is. Does (nodes_of tree.now) 6 (call_rest (nodes_of tree.now) (CallFrame.ParameterBound node next arguments scope) u) state.old state.new next_is) }
+    ensures { (u : kept.Value ℕ) → IfOk result (λ next_is. Does (nodes_of tree.now) 6 (call_rest (nodes_of tree.now) (CallFrame.ParameterBound node next arguments scope) u) state.old state.new next_is) }
 {
     parameters(state, tree, node, next, arguments, scope)
 }
@@ -226,7 +265,7 @@ pub fn rest_bound(
     node: NodeId,
     scope: Scope,
 ) -> Result<Next, StepFault>
-    ensures { (u : values.Value ℕ) → IfOk result (λ next. Does (nodes_of tree.now) 6 (call_rest (nodes_of tree.now) (CallFrame.RestBound node scope) u) state.old state.new next) }
+    ensures { (u : kept.Value ℕ) → IfOk result (λ next. Does (nodes_of tree.now) 6 (call_rest (nodes_of tree.now) (CallFrame.RestBound node scope) u) state.old state.new next) }
 {
     state.jump(body_of(tree, node), scope)
 }
