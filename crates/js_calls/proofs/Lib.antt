@@ -4,3 +4,5 @@ mod Called
 mod Reading
 mod Joining
 mod Storing
+mod Lookups
+mod Rebinding

@@ -39,7 +39,7 @@ use Rattle.js_calls.specs.Writing.{Written, change_of, fault_for, set_next}
 use Rattle.js_calls.proofs.Joining.{set_same}
 
 -- the same locations follow the supply
-follows_keys : (supply : ℕ → ℕ) (n : ℕ) (xs ys : List (ℕ × Cell ℕ)) → keys xs ≡ keys ys → Follows supply n xs → Follows supply n ys
+pub follows_keys : (supply : ℕ → ℕ) (n : ℕ) (xs ys : List (ℕ × Cell ℕ)) → keys xs ≡ keys ys → Follows supply n xs → Follows supply n ys
 follows_keys supply n [] [] e f = tt
 follows_keys supply n [] (y ∷ ys) e f = absurd (cc)
 follows_keys supply n (x ∷ xs) [] e f = absurd (cc)

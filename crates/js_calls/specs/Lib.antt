@@ -3,3 +3,5 @@ pub mod Defaults
 pub mod Calling
 pub mod Reading
 pub mod Writing
+pub mod Naming
+pub mod Assigning
