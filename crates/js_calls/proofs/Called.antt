@@ -137,7 +137,7 @@ pub no_function_ok : (nodes : List Node) (n node env : ℕ) (receiver : Value �
 unfolding invoke
 no_function_ok nodes n node env receiver arguments k old new r le none h =
     does_read_ok nodes n (λ w. activate (function_of (slice_get w.tree node)) env receiver arguments k w) (throw NotAFunction) old new r
-        (λ supply. ap (λ o. activate o env receiver arguments k (world_of nodes supply old)) none) (allowing_ok nodes 2 n _ old new r le h)
+    (λ supply. ap (λ o. activate o env receiver arguments k (world_of nodes supply old)) none) (allowing_ok nodes 2 n _ old new r le h)
 
 -- nor is one above the limit of active calls
 pub too_deep_ok : (nodes : List Node) (n node env : ℕ) (receiver : Value ℕ) (arguments : List (Value ℕ)) (k : Cont ℕ) (function : Function) (old new : State) (r : Result Next StepFault) → 2 ≤ n → function_of (slice_get nodes node) ≡ Some function → old.heap.limits.depth ≤ old.depth
@@ -146,10 +146,10 @@ unfolding invoke
 too_deep_ok nodes n node env receiver arguments k function old new r le found above h =
     let deep : nat_lt old.depth old.heap.limits.depth ≡ false = grind (arith, nat_tests) in
     does_read_ok nodes n (λ w. activate (function_of (slice_get w.tree node)) env receiver arguments k w) (throw TooManyCalls) old new r
-        (λ supply. let w = world_of nodes supply old in
-            ap (λ o. activate o env receiver arguments k w) found
-            ∙ ap (λ b. if b then Write (record w { depth = w.depth + 1 }) (run_function function env receiver arguments k) else throw TooManyCalls) deep)
-        (allowing_ok nodes 2 n _ old new r le h)
+    (λ supply. let w = world_of nodes supply old in
+    ap (λ o. activate o env receiver arguments k w) found
+    ∙ ap (λ b. if b then Write (record w { depth = w.depth + 1 }) (run_function function env receiver arguments k) else throw TooManyCalls) deep)
+    (allowing_ok nodes 2 n _ old new r le h)
 
 -- a call by what stands at the callee
 called_by : (cell : Option (Cell ℕ)) (receiver : Value ℕ) (arguments : List (Value ℕ)) (k : Value ℕ → Prog ℕ) → call_cell cell receiver arguments k ≡ by_callee (callee_in cell) receiver arguments k
@@ -175,7 +175,7 @@ pub call_ok : (nodes : List Node) (n : ℕ) (callee receiver : Value ℕ) (argum
 unfolding call
 call_ok nodes n callee receiver arguments k seen old new r is =
     does_read_ok nodes n (λ w. call_cell (cell_of callee w) receiver arguments k) (by_callee seen receiver arguments k) old new r
-        (λ supply. called_by (cell_of callee (world_of nodes supply old)) receiver arguments k ∙ sym (ap (λ c. by_callee c receiver arguments k) (is (world_of nodes supply old))))
+    (λ supply. called_by (cell_of callee (world_of nodes supply old)) receiver arguments k ∙ sym (ap (λ c. by_callee c receiver arguments k) (is (world_of nodes supply old))))
 
 -- what is done with a value, where there is a frame and where there is none
 pub ended_none : (nodes : List Node) → ◌≡◌ {A = Value ℕ → Prog ℕ} (ending nodes None) (λ v. give v)
@@ -222,17 +222,17 @@ pub function_ok : (nodes : List Node) (n : ℕ) (node : NodeId) (env : ℕ) (rec
 function_ok nodes n node env receiver arguments k function bindings old mid new inner r found are made h =
     let go : ℕ → Prog ℕ = λ loc. bind (run_body function arguments (record { env = loc; receiver = receiver })) (leave k) in
     does_read_ok nodes n (λ w. alloc (env_cell (Some env) (parameters_of w.tree (patterns_of function))) go) (alloc (Env (Some env) bindings) go) old new r
-        (λ supply. sym (ap (λ bs. alloc (Env (Some env) bs) go) are))
-        (does_alloc_ok nodes n (Env (Some env) bindings) go old mid new inner r refl made
-            (subst (λ p. IfOk r (λ next. Does nodes n (bind p (leave k)) mid new next)) (sym (body_is nodes node function arguments (record { env = inner; receiver = receiver }) found)) h))
+    (λ supply. sym (ap (λ bs. alloc (Env (Some env) bs) go) are))
+    (does_alloc_ok nodes n (Env (Some env) bindings) go old mid new inner r refl made
+    (subst (λ p. IfOk r (λ next. Does nodes n (bind p (leave k)) mid new next)) (sym (body_is nodes node function arguments (record { env = inner; receiver = receiver }) found)) h))
 
 pub no_environment : (nodes : List Node) (n : ℕ) (env : ℕ) (receiver : Value ℕ) (arguments : List (Value ℕ)) (k : Cont ℕ) (function : Function) (bindings : List (Binding ℕ)) (old new : State) (stop : Stop)
     → 1 ≤ n → bindings ≡ parameters_of nodes (patterns_of function) → Allocates (Env (Some env) bindings) old new (Err stop) → Does nodes n (run_function function env receiver arguments k) old new (Made (Stopped stop))
 no_environment nodes n env receiver arguments k function bindings old new stop some are made =
     let go : ℕ → Prog ℕ = λ loc. bind (run_body function arguments (record { env = loc; receiver = receiver })) (leave k) in
     does_read nodes n (λ w. alloc (env_cell (Some env) (parameters_of w.tree (patterns_of function))) go) (alloc (Env (Some env) bindings) go) old new (Made (Stopped stop))
-        (λ supply. sym (ap (λ bs. alloc (Env (Some env) bs) go) are))
-        (not_alloc nodes n (Env (Some env) bindings) go old new stop some made)
+    (λ supply. sym (ap (λ bs. alloc (Env (Some env) bs) go) are))
+    (not_alloc nodes n (Env (Some env) bindings) go old new stop some made)
 
 -- a call of a closure, and of a built-in function
 pub closure_ok : (nodes : List Node) (n node env : ℕ) (kept : Option (Value ℕ)) (receiver given : Value ℕ) (arguments : List (Value ℕ)) (frame : Option (AfterFrame ℕ)) (old new : State) (r : Result Next StepFault) → given ≡ unwrap_or kept receiver

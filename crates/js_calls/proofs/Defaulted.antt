@@ -93,10 +93,10 @@ module _ (nodes : List Node) (node : NodeId) (at : ℕ) (arguments : List (Value
   default_entered next element value default old new r is behind value_is defaults h =
       let K : Value ℕ → Prog ℕ = λ v. bind_value element.bind v scope (parameters_rest nodes node next arguments scope) in
       let e : parameters_rest nodes node at arguments scope ≡ eval default scope (λ v. call_rest nodes (calls.ParameterDefault node at arguments scope) v) =
-          one_more nodes node at next arguments scope element is behind
-          ∙ ap (λ x. or_default element.default x scope K) (sym value_is)
-          ∙ defaults scope K
-          ∙ ap (λ (k : Value ℕ → Prog ℕ). eval default scope k) (fun_ext (λ v. sym (bound_more nodes node at next arguments scope element v is behind))) in
+      one_more nodes node at next arguments scope element is behind
+      ∙ ap (λ x. or_default element.default x scope K) (sym value_is)
+      ∙ defaults scope K
+      ∙ ap (λ (k : Value ℕ → Prog ℕ). eval default scope k) (fun_ext (λ v. sym (bound_more nodes node at next arguments scope element v is behind))) in
       subst (λ p. IfOk r (λ x. Does nodes 2 p old new x)) (sym e) h
 
   -- or the parameter is bound at once
@@ -106,9 +106,9 @@ module _ (nodes : List Node) (node : NodeId) (at : ℕ) (arguments : List (Value
   bound_at_once next element value old new r is behind value_is defaults h =
       let K : Value ℕ → Prog ℕ = λ v. bind_value element.bind v scope (parameters_rest nodes node next arguments scope) in
       let e : parameters_rest nodes node at arguments scope ≡ K value =
-          one_more nodes node at next arguments scope element is behind
-          ∙ ap (λ x. or_default element.default x scope K) (sym value_is)
-          ∙ defaults scope K in
+      one_more nodes node at next arguments scope element is behind
+      ∙ ap (λ x. or_default element.default x scope K) (sym value_is)
+      ∙ defaults scope K in
       subst (λ p. IfOk r (λ x. Does nodes 2 p old new x)) (sym e) h
 
   -- a default has a value, and the parameter is bound
@@ -137,7 +137,7 @@ module _ (nodes : List Node) (node : NodeId) (at : ℕ) (arguments : List (Value
       let cell = Array (built_in ArrayPrototype (world_of nodes (λ m. m) old)) items false in
       let e : parameters_rest nodes node at arguments scope ≡ make_array items k = rest_more nodes node at arguments scope pattern is some ∙ sym (ap (λ vs. make_array vs k) items_are) in
       subst (λ p. IfOk r (λ x. Does nodes 2 p old new x)) (sym e)
-          (does_read_ok nodes 2 (λ w. alloc (Array (built_in ArrayPrototype w) items false) k) (alloc cell k) old new r (λ supply. refl) (does_alloc_ok nodes 2 cell k old mid new array r refl (made (λ m. m)) h))
+      (does_read_ok nodes 2 (λ w. alloc (Array (built_in ArrayPrototype w) items false) k) (alloc cell k) old new r (λ supply. refl) (does_alloc_ok nodes 2 cell k old mid new array r refl (made (λ m. m)) h))
 
   pub rest_not_made : (pattern : NodeId) (items : List (Value ℕ)) (old new : State) (stop : Stop) → drop at (parameters_from (slice_get nodes node.0)) ≡ [] → rest_parameter (slice_get nodes node.0) ≡ Some pattern → items ≡ drop at arguments
       → ((supply : ℕ → ℕ) → Allocates (Array (built_in ArrayPrototype (world_of nodes supply old)) items false) old new (Err stop))
@@ -148,4 +148,4 @@ module _ (nodes : List Node) (node : NodeId) (at : ℕ) (arguments : List (Value
       let cell = Array (built_in ArrayPrototype (world_of nodes (λ m. m) old)) items false in
       let e : parameters_rest nodes node at arguments scope ≡ make_array items k = rest_more nodes node at arguments scope pattern is some ∙ sym (ap (λ vs. make_array vs k) items_are) in
       subst (λ p. Does nodes 2 p old new (Made (Stopped stop))) (sym e)
-          (does_read nodes 2 (λ w. alloc (Array (built_in ArrayPrototype w) items false) k) (alloc cell k) old new (Made (Stopped stop)) (λ supply. refl) (not_alloc nodes 2 cell k old new stop (omega arith) (made (λ m. m))))
+      (does_read nodes 2 (λ w. alloc (Array (built_in ArrayPrototype w) items false) k) (alloc cell k) old new (Made (Stopped stop)) (λ supply. refl) (not_alloc nodes 2 cell k old new stop (omega arith) (made (λ m. m))))

@@ -152,7 +152,7 @@ unfolding set
 set_ok nodes n loc key v p old mid new what r plain wrote h =
     let change = sets nat_eq old.heap.cells loc key v in
     does_read_ok nodes n (λ w. carry_out (set_on (Ref loc) key v w) (Ref loc) v p) (carry_out (change_of change) (Ref loc) v p) old new r (λ supply. reads nodes loc key v p old supply plain)
-        (does_move_ok nodes n _ _ old mid new r (moves_set nodes change (Ref loc) v p old mid what wrote) h)
+    (does_move_ok nodes n _ _ old mid new r (moves_set nodes change (Ref loc) v p old mid what wrote) h)
 
 pub not_set : (nodes : List Node) (n loc : ℕ) (key : List ℕ) (v : Value ℕ) (p : Prog ℕ) (old new : State) (stop : Stop) → 1 ≤ n → is_symbol (find nat_eq old.heap.cells loc) ≡ false → Written (sets nat_eq old.heap.cells loc key v) old new (Err stop)
     → Does nodes n (set (Ref loc) key v p) old new (Made (Stopped stop))
@@ -160,7 +160,7 @@ unfolding set
 not_set nodes n loc key v p old new stop some plain wrote =
     let change = sets nat_eq old.heap.cells loc key v in
     does_read nodes n (λ w. carry_out (set_on (Ref loc) key v w) (Ref loc) v p) (carry_out (change_of change) (Ref loc) v p) old new (Made (Stopped stop)) (λ supply. reads nodes loc key v p old supply plain)
-        (does_not_set nodes n change (Ref loc) v p old new stop some wrote)
+    (does_not_set nodes n change (Ref loc) v p old new stop some wrote)
 
 -- writing what takes no property is an error
 pub refused_ok : (nodes : List Node) (n : ℕ) (of : Value ℕ) (key : List ℕ) (v : Value ℕ) (p : Prog ℕ) (fault : Fault) (old new : State) (r : Result Next StepFault) → ((supply : ℕ → ℕ) → set_on of key v (world_of nodes supply old) ≡ rows.Refuses fault)

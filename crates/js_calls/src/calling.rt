@@ -8,9 +8,9 @@ ghost use Rattle.js_machine.specs.Does.{Does, weight};
 ghost use Rattle.js_machine.specs.Frames.{after_rest, parameters_rest};
 ghost use Rattle.js_calls.specs.Calling.{after_frame, allowance, by_callee, call_frames, ending};
 
+use crate::binding::parameters;
 use crate::callee::{Callee, callee_of};
 use crate::functions::function_at;
-use crate::binding::parameters;
 use crate::scopes::discard;
 use js_machine::{AfterFrame, Frame, Next, State, stopped};
 use js_names::parameters_of;
@@ -80,7 +80,14 @@ fn run_function(
                 env: inner,
                 receiver: invocation.receiver,
             };
-            enter_body(state, tree, invocation.node, invocation.arguments, scope, frame)
+            enter_body(
+                state,
+                tree,
+                invocation.node,
+                invocation.arguments,
+                scope,
+                frame,
+            )
         }
         Err(stop) => Ok(stopped(stop)),
     }
