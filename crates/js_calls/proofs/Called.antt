@@ -1,5 +1,5 @@
 -- How calls are put together.
-use Rattle.std.proofs.Common.{◌≡◌, ℕ, suc, zero, ◌+◌, ◌*◌, ◌-◌, ◌≤◌, ◌<◌, List, [], ◌∷◌, ◌++◌, length, Option, Some, None, Bool, true, false, if◌then◌else◌, IfOk, Result, Ok, Err, nat_lt, refl, sym, ap, subst, ◌∙◌, arith}
+use Rattle.std.proofs.Common.{◌≡◌, ℕ, ◌+◌, ◌≤◌, ◌<◌, List, [], ◌∷◌, ◌++◌, Option, Some, None, true, false, if◌then◌else◌, IfOk, Result, Ok, Err, nat_lt, refl, sym, ap, subst, ◌∙◌, arith}
 use mathlib.Core.Path.{fun_ext}
 use Rattle.std.specs.Prelude.{slice_get, unwrap_or}
 use Rattle.std.proofs.lemmas.Result.{IfOk-weaker}
@@ -19,10 +19,10 @@ use Rattle.js_semantics.specs.declared.scope.Scope.{Scope}
 use Rattle.js_semantics.specs.declared.outcome.Outcome.{Outcome}
 use Rattle.js_semantics.specs.declared.outcome.Outcome.TheVariants.{Normal, Return, Break, Continue, Thrown}
 use Rattle.js_semantics.specs.World.{World, cell_of, over}
-use Rattle.js_semantics.specs.Prog.{Prog, Cont, Over, End, Enter, Read, Write, Native as NativeRequest, Node as NodeRequest, alloc, bind, give, on_value, throw}
-use Rattle.js_semantics.specs.Access.{activate, bind_parameters, call, call_cell, function_of, given_by, invoke, leave, patterns_of, run_body, run_function}
+use Rattle.js_semantics.specs.Prog.{Prog, Cont, Over, End, Enter, Write, Native as NativeRequest, Node as NodeRequest, alloc, bind, give, on_value, throw}
+use Rattle.js_semantics.specs.Access.{activate, bind_parameters, call, call_cell, function_of, invoke, leave, patterns_of, run_body, run_function}
 use Rattle.js_semantics.specs.Environments.{env_cell, parameters_of}
-use Rattle.js_semantics.specs.Run.{Arrival, run}
+use Rattle.js_semantics.specs.Run.{run}
 use Rattle.js_semantics.proofs.Programs.{bind_assoc}
 use Rattle.js_machine.specs.declared.frame.Frame.{Frame}
 use Rattle.js_machine.specs.declared.frame.Frame.TheVariants as frames
@@ -33,7 +33,7 @@ use Rattle.js_machine.specs.declared.state.Next.{Next}
 use Rattle.js_machine.specs.declared.state.Next.TheVariants.{Made}
 use Rattle.js_machine.specs.Frames.{after_rest, parameters_rest, rest, under}
 use Rattle.js_machine.specs.Parts.{body_in, body_node, parameters_from, parameters_in, rest_in, rest_parameter}
-use Rattle.js_machine.specs.Does.{world_of, budget_of, stack_rest, under_frame, weight, weights, work, left, Allocates, Does, Moves}
+use Rattle.js_machine.specs.Does.{world_of, budget_of, stack_rest, under_frame, weight, weights, left, Allocates, Does, Moves}
 use Rattle.js_machine.proofs.Doing.{allowing_ok, does_move_ok, does_read, does_read_ok, under_push, weights_push}
 use Rattle.js_machine.proofs.Allocating.{does_alloc_ok, not_alloc}
 use Rattle.js_calls.specs.declared.callee.Callee.{Callee}

@@ -1,5 +1,5 @@
 -- The parameters of a function from a place on.
-use Rattle.std.proofs.Common.{◌≡◌, ℕ, zero, suc, ◌+◌, List, [], ◌∷◌, drop, Option, Some, None, false, Result, Ok, Err, IfOk, ◌≤◌, refl, sym, ap, subst, ◌∙◌, add-one, arith}
+use Rattle.std.proofs.Common.{◌≡◌, ℕ, zero, suc, ◌+◌, List, [], ◌∷◌, drop, Some, None, false, Result, Ok, Err, IfOk, refl, sym, ap, subst, ◌∙◌, add-one, arith}
 use mathlib.Core.Path.{fun_ext}
 use Rattle.std.specs.Prelude.{slice_get}
 use Rattle.world_heap.specs.declared.value.Value.{Value}

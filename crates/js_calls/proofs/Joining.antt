@@ -12,7 +12,7 @@ use Rattle.world_heap.specs.Bodies.{body_of}
 use Rattle.proto_props.specs.declared.chain.Reach.{Reach}
 use Rattle.proto_props.specs.declared.chain.Reach.TheVariants.{Has, Past, Nowhere}
 use Rattle.proto_props.specs.Chains.{search}
-use Rattle.proto_props.specs.Changes.{Change, Rewrites, Extends, Stays, Refuses}
+use Rattle.proto_props.specs.Changes.{Change, Refuses}
 use Rattle.proto_props.specs.Adds as props
 use Rattle.proto_props.specs.Sets as sets
 use Rattle.js_semantics.specs.declared.fault.Fault.TheVariants as faults

@@ -3,26 +3,25 @@ use Rattle.std.proofs.Common.{◌≡◌, ℕ, zero, suc, List, [], ◌∷◌, le
 use Rattle.std.specs.Prelude.{slice_get, option_map}
 use Rattle.std.proofs.lemmas.Bool.Decides.{nat_tests}
 use Rattle.std.specs.Option.{option_and_then}
-use Rattle.std.specs.Cmp.Lexicographic.{pointwise, same_text}
+use Rattle.std.specs.Cmp.Lexicographic.{same_text}
 use Rattle.wl_text.specs.Number.{index_of, natural_of}
 use Rattle.world_heap.specs.declared.value.Value.{Value}
 use Rattle.world_heap.specs.declared.value.Value.TheVariants.{Undefined, Null, Bool as Boolean, Num, Str, Ref}
 use Rattle.world_heap.specs.declared.cell.Cell.{Cell}
 use Rattle.proto_props.specs.declared.get.Got.{Got}
-use Rattle.proto_props.specs.declared.get.Got.TheVariants.{Value as Given, CallGetter, Absent, Refused}
+use Rattle.proto_props.specs.declared.get.Got.TheVariants.{Value as Given}
 use Rattle.proto_props.specs.Gets.{gets, text_unit, unit_got}
 use Rattle.proto_props.specs.Own.{is_length}
 use Rattle.js_tree.specs.declared.node.Node.{Node}
 use Rattle.js_semantics.specs.declared.fault.StepFault.{StepFault}
 use Rattle.js_semantics.specs.declared.fault.Fault.TheVariants.{TooLong}
-use Rattle.js_semantics.specs.World.{World, over}
 use Rattle.js_semantics.specs.Prog.{Prog, count_units, make_text, throw}
 use Rattle.js_semantics.specs.Properties.{made_of}
 use Rattle.js_semantics.specs.Access.{get, take_up}
 use Rattle.js_machine.specs.declared.state.State.{State}
 use Rattle.js_machine.specs.declared.state.Next.{Next}
 use Rattle.js_machine.specs.declared.state.Next.TheVariants.{Made}
-use Rattle.js_machine.specs.Does.{CountsUnits, Does, world_of}
+use Rattle.js_machine.specs.Does.{CountsUnits, Does}
 use Rattle.js_semantics.specs.declared.entry.Product.TheVariants.{Stopped}
 use Rattle.js_semantics.specs.declared.entry.Stop.TheVariants.{Units}
 use Rattle.js_machine.proofs.Doing.{does_read_ok}

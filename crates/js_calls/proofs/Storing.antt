@@ -1,19 +1,17 @@
 -- How the writing of a property is put together.
-use Rattle.std.proofs.Common.{◌≡◌, ◌≢◌, ℕ, suc, ◌+◌, ◌*◌, ◌-◌, ◌≤◌, ◌<◌, List, [], ◌∷◌, length, Option, Some, None, Bool, true, false, if◌then◌else◌, IfOk, Result, Ok, Err, nat_lt, nat_eq, refl, sym, ap, subst, ◌∙◌, arith}
+use Rattle.std.proofs.Common.{◌≡◌, ◌≢◌, ℕ, suc, ◌+◌, ◌*◌, ◌-◌, ◌≤◌, ◌<◌, List, [], ◌∷◌, Some, None, Bool, true, false, if◌then◌else◌, IfOk, Result, Ok, Err, nat_lt, nat_eq, refl, sym, ap, ◌∙◌, arith}
 use Rattle.std.proofs.lemmas.Bool.Decides.{nat_tests}
 use Rattle.world_heap.specs.declared.value.Value.{Value}
 use Rattle.world_heap.specs.declared.value.Value.TheVariants.{Ref}
 use Rattle.world_heap.specs.declared.cell.Cell.{Cell}
 use Rattle.world_heap.specs.declared.limits.Counts.{Counts}
-use Rattle.world_heap.specs.declared.limits.Full.{Full}
 use Rattle.world_heap.specs.declared.limits.Full.TheVariants.{Places as FullPlaces, Units as FullUnits}
-use Rattle.world_heap.specs.declared.limits.HeapFault.TheVariants as full
 use Rattle.world_heap.specs.Growth.{first_passed, grown}
 use Rattle.world_heap.specs.Maps.{find, keys, put}
 use Rattle.world_heap.specs.Views.{Bounds, HeapView}
 use Rattle.proto_props.specs.declared.outcome.SetDone.{SetDone}
 use Rattle.proto_props.specs.declared.outcome.SetDone.TheVariants as done
-use Rattle.proto_props.specs.Changes.{Change, Rewrites, Extends, Stays, CallsSetter, Refuses, Carries}
+use Rattle.proto_props.specs.Changes.{Change, Rewrites, Extends, Stays, CallsSetter, Refuses}
 use Rattle.proto_props.specs.Sets.{sets}
 use Rattle.js_tree.specs.declared.node.Node.{Node}
 use Rattle.js_semantics.specs.declared.fault.Fault.{Fault}
@@ -22,8 +20,8 @@ use Rattle.js_semantics.specs.declared.fault.StepFault.{StepFault}
 use Rattle.js_semantics.specs.declared.entry.Product.TheVariants.{Stopped}
 use Rattle.js_semantics.specs.declared.entry.Stop.{Stop}
 use Rattle.js_semantics.specs.declared.entry.Stop.TheVariants as stops
-use Rattle.js_semantics.specs.Run.{Arrival, receive, run}
-use Rattle.js_semantics.specs.World.{World, with_cell}
+use Rattle.js_semantics.specs.Run.{receive, run}
+use Rattle.js_semantics.specs.World.{with_cell}
 use Rattle.js_semantics.specs.Prog.{Prog, Place, Read, Write, bind, throw}
 use Rattle.js_semantics.specs.Properties.{is_symbol, set_on, set_step}
 use Rattle.js_semantics.specs.Properties as rows
@@ -35,7 +33,7 @@ use Rattle.js_machine.specs.declared.state.Next.{Next}
 use Rattle.js_machine.specs.declared.state.Next.TheVariants.{Made}
 use Rattle.js_machine.specs.Does.{Follows, budget_of, world_of, stack_rest, to_come, after, weights, work, left, Does, Moves}
 use Rattle.js_machine.proofs.Doing.{does_move_ok, does_read, does_read_ok, moves_by}
-use Rattle.js_calls.specs.Writing.{Written, change_of, fault_for, set_next}
+use Rattle.js_calls.specs.Writing.{Written, change_of, set_next}
 use Rattle.js_calls.proofs.Joining.{set_same}
 
 -- the same locations follow the supply

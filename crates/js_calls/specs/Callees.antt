@@ -1,5 +1,5 @@
 -- The function that a cell is (ECMA-262, 7.2.3: IsCallable).
-use Rattle.std.specs.Prelude.{Option, Some, None}
+use Rattle.std.specs.Prelude.{Option, Some}
 use Rattle.world_heap.specs.declared.cell.Cell.{Cell}
 use Rattle.world_heap.specs.declared.cell.Cell.TheVariants as cells
 use Rattle.js_calls.specs.declared.callee.Callee.{Callee}
