@@ -7,7 +7,7 @@ ghost use Rattle.heap_times.specs.Words.{kind_of};
 pub enum Kind {
     /// Cells are added to a world that has some.
     Add,
-    /// A cell of a world is read.
+    /// The cells of a chain of prototypes are read.
     Read,
     /// Keys are looked up in an object that has some.
     Find,

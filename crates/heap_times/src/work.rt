@@ -1,12 +1,13 @@
 //! The work.
 ghost use Rattle.std.specs.Prelude.{◌≡◌, [], IfOk, nat_eq};
-ghost use Rattle.world_heap.specs.Heaps.{IsCell};
+ghost use Rattle.world_heap.specs.Over.{OptionOver};
+ghost use Rattle.world_heap.specs.Heaps.{IsNoEnv, IsCell};
 
 use crate::asked::{Asked, Kind};
 use crate::failure::Failure;
 use proto_props::{SetDone, delete, find, set_step};
-use std::alloc::Global;
-use wl_text::number_text;
+use std::alloc::{AllocError, Global};
+use wl_text::{Units, number_text};
 use world_heap::{Body, Cell, Heap, HeapFault, Limits, Loc, Pool, Table, Value, WorldKind};
 
 // The greatest limits that a world may have.
@@ -30,15 +31,28 @@ fn world(alloc: Global) -> Result<Heap, Failure>
 
 // Adds an object without properties.
 #[tactic(auto, using(world_heap::specs::Maps::map_laws))]
-fn placed(alloc: Global, heap: &mut Heap) -> Result<Loc, HeapFault>
-    ensures { IfOk result (λ loc. IsCell nat_eq heap.new.cells loc) }
+fn placed(alloc: Global, heap: &mut Heap, proto: Option<Loc>) -> Result<Loc, HeapFault>
+    requires { OptionOver (IsNoEnv nat_eq heap.old.cells) proto }
+    ensures stands { IfOk result (λ loc. IsCell nat_eq heap.new.cells loc) }
+    ensures object { IfOk result (λ loc. IsNoEnv nat_eq heap.new.cells loc) }
 {
     let body = Body {
-        proto: None,
+        proto,
         properties: Table::new(alloc),
         extensible: true,
     };
     heap.add(Cell::Object { body })
+}
+
+// Adds an object with a chain of so many prototypes.
+fn chained(alloc: Global, heap: &mut Heap, count: u32) -> Result<Loc, Failure>
+    ensures { IfOk result (λ loc. IsCell nat_eq heap.new.cells loc) }
+{
+    let mut last = placed(alloc, heap, None)?;
+    'objects: for _done in 0..count {
+        last = placed(alloc, heap, Some(last))?;
+    }
+    Ok(last)
 }
 
 // Adds so many cells.
@@ -52,13 +66,18 @@ fn fill(heap: &mut Heap, count: u32) -> Result<(), HeapFault>
     Ok(())
 }
 
+// The key of a number; all that are used have seven units.
+fn key_of(alloc: Global, number: u32) -> Result<Units, AllocError> {
+    number_text(alloc, 1_000_000 + i64::from(number))
+}
+
 // Gives an object so many keys.
 fn dress(alloc: Global, heap: &mut Heap, loc: Loc, count: u32) -> Result<(), Failure>
     requires { IsCell nat_eq heap.old.cells loc }
     ensures { IsCell nat_eq heap.new.cells loc }
 {
     'keys: for number in 0..count {
-        let key = number_text(alloc, i64::from(number))?;
+        let key = key_of(alloc, number)?;
         if let SetDone::Refused(_) = set_step(alloc, heap, loc, key, Value::Null)? {
             return Ok(());
         }
@@ -74,25 +93,25 @@ fn add(alloc: Global, size: u32, count: u32) -> Result<u64, Failure> {
     Ok(heap.len())
 }
 
-// How often a cell is seen to be an object.
-fn seen(heap: &Heap, loc: Loc, count: u32) -> u64
+// How many of so many look-ups of a key find no object.
+fn missed(heap: &Heap, loc: Loc, key: &Units, count: u32) -> u64
     requires { IsCell nat_eq heap.now.cells loc }
 {
-    let mut seen = 0u64;
+    let mut missed = 0u64;
     'reads: for _done in 0..count {
-        if matches!(heap.cell(loc), Cell::Object { .. }) {
-            seen = seen.wrapping_add(1);
+        if find(heap, loc, key).is_none() {
+            missed = missed.wrapping_add(1);
         }
     }
-    seen
+    missed
 }
 
-// Reads a cell of a world, and tells how often it was there.
+// Reads the cells of a chain of prototypes for a key that none has, and tells how often it wasn't there.
 fn read(alloc: Global, size: u32, count: u32) -> Result<u64, Failure> {
     let mut heap = world(alloc)?;
-    fill(&mut heap, size)?;
-    let loc = placed(alloc, &mut heap)?;
-    Ok(seen(&heap, loc, count))
+    let loc = chained(alloc, &mut heap, size)?;
+    let key = number_text(alloc, 0)?;
+    Ok(missed(&heap, loc, &key, count))
 }
 
 // How many of so many look-ups of keys below a number find an object.
@@ -101,7 +120,7 @@ fn found(alloc: Global, heap: &Heap, loc: Loc, below: u32, count: u32) -> Result
 {
     let mut found = 0u64;
     'keys: for number in 0..count {
-        let key = number_text(alloc, i64::from(number.checked_rem(below).unwrap_or(0)))?;
+        let key = key_of(alloc, number.checked_rem(below).unwrap_or(0))?;
         if find(heap, loc, &key).is_some() {
             found = found.wrapping_add(1);
         }
@@ -112,7 +131,7 @@ fn found(alloc: Global, heap: &Heap, loc: Loc, below: u32, count: u32) -> Result
 // Looks keys up in an object, and tells how many were found.
 fn look_up(alloc: Global, size: u32, count: u32) -> Result<u64, Failure> {
     let mut heap = world(alloc)?;
-    let loc = placed(alloc, &mut heap)?;
+    let loc = placed(alloc, &mut heap, None)?;
     dress(alloc, &mut heap, loc, size)?;
     found(alloc, &heap, loc, size, count)
 }
@@ -123,7 +142,7 @@ fn removed(alloc: Global, heap: &mut Heap, loc: Loc, count: u32) -> Result<u64, 
 {
     let mut gone = 0u64;
     'keys: for number in 0..count {
-        let key = number_text(alloc, i64::from(number))?;
+        let key = key_of(alloc, number)?;
         if delete(alloc, heap, loc, &key) {
             gone = gone.wrapping_add(1);
         }
@@ -134,7 +153,7 @@ fn removed(alloc: Global, heap: &mut Heap, loc: Loc, count: u32) -> Result<u64, 
 // Removes the oldest key of an object again and again, and tells how many are gone.
 fn remove_oldest(alloc: Global, size: u32, count: u32) -> Result<u64, Failure> {
     let mut heap = world(alloc)?;
-    let loc = placed(alloc, &mut heap)?;
+    let loc = placed(alloc, &mut heap, None)?;
     dress(alloc, &mut heap, loc, size)?;
     removed(alloc, &mut heap, loc, count)
 }

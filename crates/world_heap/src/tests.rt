@@ -285,12 +285,20 @@ fn byte(heap: &Heap, loc: Loc, at: usize) -> Option<u8>
     }
 }
 
+// Writes a byte.
+fn write(heap: &mut Heap, loc: Loc, at: usize, byte: u8)
+    requires { IsCell nat_eq heap.old.cells loc }
+    ensures { IsCell nat_eq heap.new.cells loc }
+{
+    heap.write_byte(loc, at, byte);
+}
+
 // A byte is written where the buffer has one, and nowhere else.
 fn written_and_read(alloc: Global) -> Result<[Option<u8>; 3], AllocError> {
     let mut heap = Heap::new(alloc, limits(), WorldKind::Main, Pool::new(alloc))?;
     let loc = placed(&mut heap, bytes(alloc)?)?;
-    heap.write_byte(loc, 1, 9);
-    heap.write_byte(loc, 2, 8);
+    write(&mut heap, loc, 1, 9);
+    write(&mut heap, loc, 2, 8);
     Ok([
         byte(&heap, loc, 0),
         byte(&heap, loc, 1),

@@ -1,4 +1,4 @@
-use Rattle.std.proofs.Common.{◌∷◌, [], ◌++◌, subst, nat_eq}
+use Rattle.std.proofs.Common.{subst, nat_eq}
 use Rattle.world_heap.specs.Heaps.{IsNoEnv}
 use Rattle.world_heap.specs.Views.{HeapView}
 use Rattle.std.proofs.Common.{sym}

@@ -11,3 +11,8 @@ replace-requires-clause-stands c = found_stands c.args.heap.now.cells c.args.loc
 pub replace-requires-clause-keeps : goal.replace-requires-clause-keeps
 replace-requires-clause-keeps c = λ well.
     well_put c.args.heap.now.cells c.args.loc (Symbol c.args.text) (Symbol None) c.requires (record { env = refl; proto = refl; bytes = refl }) well tt
+
+pub returns : goal.returns
+returns c =
+    let same = ap (λ (v : HeapView). keys v.cells) c.replace.ensures.is ∙ keys-put c.args.heap.now.cells c.args.loc (Symbol c.args.text) in
+    subst (λ ks. Stands ks c.args.loc) (sym same) (found_stands c.args.heap.now.cells c.args.loc (Symbol None) c.requires)
