@@ -1,0 +1,8 @@
+mod Lists
+mod Defaulted
+mod Called
+mod Reading
+mod Joining
+mod Storing
+mod Lookups
+mod Rebinding

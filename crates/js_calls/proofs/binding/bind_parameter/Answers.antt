@@ -1,0 +1,7 @@
+use Rattle.js_calls.proofs.binding.bind_parameter.Goals as goal
+
+pub returns-clause-few : goal.returns-clause-few
+returns-clause-few c nodes = rw c.in_ok-inner.ensures at (c.bind_part.ensures.few nodes)
+
+pub returns-clause-many : goal.returns-clause-many
+returns-clause-many c nodes = rw c.in_ok-inner.ensures at (c.bind_part.ensures.many nodes)

@@ -1,0 +1,7 @@
+pub mod Callees
+pub mod Defaults
+pub mod Calling
+pub mod Reading
+pub mod Writing
+pub mod Naming
+pub mod Assigning

@@ -1,0 +1,99 @@
+//! The functions of a tree, and the parts of them.
+ghost use Rattle.std.specs.Prelude.{◌≡◌, ◌+◌, [], ◌∷◌, drop, slice_get, Some, None, MatchOption};
+ghost use Rattle.js_names.specs.Patterns.{nodes_of};
+ghost use Rattle.js_semantics.specs.Access.{function_of};
+ghost use Rattle.js_machine.specs.Parts.{body_node, parameters_from, rest_parameter};
+
+use js_tree::{BindElement, Function, Node, NodeId, Tree};
+
+// The node with a number, where it stands.
+#[tactic(auto, using(crate::proofs::Lists::node_some, crate::proofs::Lists::node_none))]
+fn node_at(tree: &Tree, id: NodeId) -> Option<&Node>
+    ensures { MatchOption result (slice_get (nodes_of tree.now) id.0 ≡ None) (λ node. slice_get (nodes_of tree.now) id.0 ≡ Some node.now) }
+{
+    if id.0 < tree.len() {
+        Some(tree.node(id))
+    } else {
+        None
+    }
+}
+
+// The function of a node.
+#[tactic(auto, unfolding(js_semantics::specs::Access::function_of))]
+fn function_in(node: &Node) -> Option<&Function>
+    ensures { MatchOption result (function_of (Some node.now) ≡ None) (λ function. function_of (Some node.now) ≡ Some function.now) }
+{
+    match node {
+        Node::FunDecl { function, .. } => Some(function),
+        Node::Fun { function, .. } => Some(function),
+        Node::Arrow(function) => Some(function),
+        Node::Method { function, .. } => Some(function),
+        Node::Getter { function, .. } => Some(function),
+        Node::Setter { function, .. } => Some(function),
+        _ => None,
+    }
+}
+
+/// The function of a node, where it stands and has one.
+#[tactic(auto, unfolding(js_semantics::specs::Access::function_of))]
+pub fn function_at(tree: &Tree, node: NodeId) -> Option<&Function>
+    ensures { MatchOption result (function_of (slice_get (nodes_of tree.now) node.0) ≡ None) (λ function. function_of (slice_get (nodes_of tree.now) node.0) ≡ Some function.now) }
+{
+    match node_at(tree, node) {
+        Some(node) => function_in(node),
+        None => None,
+    }
+}
+
+// What stands at a place of a list, and the place behind it.
+#[tactic(auto, using(crate::proofs::Lists::drop_some, crate::proofs::Lists::drop_none))]
+fn next_of<T: Copy>(list: &[T], at: usize) -> Option<(T, usize)>
+    ensures { MatchOption result (drop at list.now ≡ []) (λ found. (drop at list.now ≡ found.0 ∷ drop found.1 list.now) × (found.1 ≡ at + 1)) }
+{
+    if at < list.len() {
+        Some((list[at], at + 1))
+    } else {
+        None
+    }
+}
+
+// The parameters of a node's function.
+#[tactic(auto, unfolding(js_machine::specs::Parts::parameters_from))]
+fn parameters_of(tree: &Tree, node: NodeId) -> &[BindElement]
+    ensures { result.now ≡ parameters_from (slice_get (nodes_of tree.now) node.0) }
+{
+    match function_at(tree, node) {
+        Some(function) => function.parameters.as_slice(),
+        None => &[],
+    }
+}
+
+/// The parameter of a node's function at a place, and the place behind it.
+pub fn parameter_at(tree: &Tree, node: NodeId, at: usize) -> Option<(BindElement, usize)>
+    ensures { MatchOption result (drop at (parameters_from (slice_get (nodes_of tree.now) node.0)) ≡ [])
+        (λ found. (drop at (parameters_from (slice_get (nodes_of tree.now) node.0)) ≡ found.0 ∷ drop found.1 (parameters_from (slice_get (nodes_of tree.now) node.0))) × (found.1 ≡ at + 1)) }
+{
+    next_of(parameters_of(tree, node), at)
+}
+
+/// The rest parameter of a node's function, where it has one.
+#[tactic(auto, unfolding(js_machine::specs::Parts::rest_parameter))]
+pub fn rest_parameter(tree: &Tree, node: NodeId) -> Option<NodeId>
+    ensures { result ≡ rest_parameter (slice_get (nodes_of tree.now) node.0) }
+{
+    match function_at(tree, node) {
+        Some(function) => function.rest,
+        None => None,
+    }
+}
+
+/// The body of a node's function, or the first node where it has none.
+#[tactic(auto, unfolding(js_machine::specs::Parts::body_node))]
+pub fn body_of(tree: &Tree, node: NodeId) -> NodeId
+    ensures { result ≡ body_node (slice_get (nodes_of tree.now) node.0) }
+{
+    match function_at(tree, node) {
+        Some(function) => function.body,
+        None => NodeId(0),
+    }
+}
