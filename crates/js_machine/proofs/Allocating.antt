@@ -17,7 +17,8 @@ use Rattle.js_semantics.specs.Prog.{Prog, Cont, Over, End, Read, Write, Place, M
 use Rattle.js_semantics.specs.Run.{Arrival, Budget, Then, Cut, receive, run}
 use Rattle.js_semantics.specs.declared.entry.Entry.TheVariants as entry
 use Rattle.js_semantics.specs.declared.entry.Product.TheVariants.{Stopped}
-use Rattle.js_semantics.specs.declared.entry.Stop.TheVariants.{Cells, Places, Units}
+use Rattle.js_semantics.specs.declared.entry.Stop.{Stop}
+use Rattle.js_semantics.specs.declared.entry.Stop.TheVariants.{Fuel, Cells, Places, Units}
 use Rattle.js_semantics.proofs.Programs.{places_some, place_some, place_none, count_bind}
 use Rattle.js_machine.specs.declared.state.State.{State}
 use Rattle.js_machine.specs.declared.state.Control.TheVariants as controls
@@ -203,3 +204,10 @@ does_not_units nodes n units p old new some (more, is) =
       keeps = λ supply f. rw is at f;
       stays = ap (λ s. s.heap) is ∙ sym (ap (λ s. record old.heap { cells = s.heap.cells; counts = s.heap.counts }) is);
     }
+
+-- no cell can be made, whichever count would pass its limit
+pub not_alloc : (nodes : List Node) (n : ℕ) (cell : Cell ℕ) (k : ℕ → Prog ℕ) (old new : State) (stop : Stop) → 1 ≤ n → Allocates cell old new (Err stop) → Does nodes n (alloc cell k) old new (Made (Stopped stop))
+not_alloc nodes n cell k old new Fuel some h = absurd h
+not_alloc nodes n cell k old new Cells some h = not_alloc_cells nodes n cell k old new some h
+not_alloc nodes n cell k old new Places some h = not_alloc_places nodes n cell k old new some h
+not_alloc nodes n cell k old new Units some h = absurd h

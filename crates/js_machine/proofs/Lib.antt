@@ -1,3 +1,4 @@
 pub mod Doing
 pub mod Allocating
 pub mod Testing
+pub mod Messages

@@ -1,5 +1,5 @@
 //! What the rows are made of: ending a row, and entering what is below it.
-ghost use Rattle.std.specs.Prelude.{◌≡◌, ◌≤◌, ℕ, List, IfOk, Some, None};
+ghost use Rattle.std.specs.Prelude.{◌≡◌, ◌≤◌, ◌++◌, ℕ, List, IfOk, OnOk, Some, None, option_to_list};
 ghost use Rattle.js_tree.specs.declared.node.Node as kind;
 ghost use Rattle.js_semantics.specs.Prog.{Bind, End, Enter, Member, Native, Node as NodeRequest, Request, give};
 ghost use Rattle.js_machine.specs.Frames.{after_rest, rest};
@@ -11,6 +11,9 @@ use js_semantics::{Outcome, Product, Scope, StepFault, Stop};
 use js_tree::NodeId;
 use sqlite_items::Items;
 use world_heap::{Loc, Value};
+
+/// Lets a value go. A generic function keeps the cases of its drop out of its callers' proofs.
+pub fn discard<T: Drop>(_value: T) {}
 
 /// A world stops, for good.
 pub fn stopped(stop: Stop) -> Next
@@ -39,6 +42,27 @@ impl State {
         Ok(Next::Go)
     }
 
+    // Puts a frame on the stack, where there is one.
+    fn push(&mut self, frame: Option<Frame>) -> Result<(), StepFault>
+        ensures frames { OnOk result (self.new.frames.items ≡ self.old.frames.items ++ option_to_list frame) }
+        ensures rest { self.new ≡ record self.old { frames = self.new.frames } }
+    {
+        match frame {
+            Some(frame) => {
+                self.frames.push(frame)?;
+                Ok(())
+            }
+            None => Ok(()),
+        }
+    }
+
+    // Says what is next.
+    fn turn_to(&mut self, control: Control)
+        ensures { self.new ≡ record self.old { control = control } }
+    {
+        discard(std::mem::replace(&mut self.control, control));
+    }
+
     // Takes a step and goes on with what is entered, over a frame where there is one.
     fn go(&mut self, frame: Option<Frame>, control: Control) -> Result<Next, StepFault>
         ensures { (nodes : List kind.Node) (n : ℕ) (r : Request ℕ) → 2 ≤ n → IsEntered control r
@@ -48,11 +72,9 @@ impl State {
             self.control = Control::Stop;
             return Ok(stopped(Stop::Fuel));
         }
-        if let Some(frame) = frame {
-            self.frames.push(frame)?;
-        }
+        self.push(frame)?;
         self.steps -= 1;
-        self.control = control;
+        self.turn_to(control);
         Ok(Next::Go)
     }
 

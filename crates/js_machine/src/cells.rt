@@ -9,6 +9,7 @@ ghost use Rattle.js_semantics.specs.World.{built_in};
 ghost use Rattle.js_machine.specs.Does.{Allocates, CountsUnits, world_of};
 ghost use Rattle.js_machine.specs.Parts.{message_entry};
 
+use crate::basic::discard;
 use crate::fitting::{are_fit, are_fit_bindings, is_cell, is_fit_option, is_outer, is_prototype};
 use crate::state::{Control, State};
 use js_semantics::{StepFault, Stop};
@@ -18,9 +19,6 @@ use sqlite_items::Items;
 use std::alloc::Global;
 use wl_text::Units;
 use world_heap::{Binding, Body, BuiltIn, Cell, HeapFault, Loc, Property, Table, Value};
-
-/// Lets a value go. A generic function keeps the cases of its drop out of its callers' proofs.
-fn discard<T: Drop>(_value: T) {}
 
 impl State {
     // Makes a cell, or stops.
@@ -53,7 +51,7 @@ impl State {
     ) -> Result<Result<Loc, Stop>, StepFault>
         ensures { IfOk result (λ got. Allocates (Cell.Env outer bindings) self.old self.new got) }
     {
-        if is_outer(&self.heap, outer) && are_fit_bindings(&self.heap, bindings.as_slice()) {
+        if is_outer(&self.heap, &outer) && are_fit_bindings(&self.heap, bindings.as_slice()) {
             self.make(environment(outer, bindings))
         } else {
             discard(bindings);
@@ -65,7 +63,7 @@ impl State {
     pub fn make_object(&mut self, proto: Option<Loc>) -> Result<Result<Loc, Stop>, StepFault>
         ensures { IfOk result (λ got. Allocates (Cell.Object (record { proto = proto; properties = []; extensible = true })) self.old self.new got) }
     {
-        if is_prototype(&self.heap, proto) {
+        if is_prototype(&self.heap, &proto) {
             let cell = object(self.alloc, proto);
             self.make(cell)
         } else {
@@ -85,7 +83,7 @@ impl State {
         ensures { (nodes : List kind.Node) (supply : ℕ → ℕ) → IfOk result (λ got. Allocates (Cell.Array (built_in BuiltIn.ArrayPrototype (world_of nodes supply self.old)) items false) self.old self.new got) }
     {
         let proto = self.built_in(BuiltIn::ArrayPrototype);
-        if is_prototype(&self.heap, proto) && are_fit(&self.heap, items.as_slice()) {
+        if is_prototype(&self.heap, &proto) && are_fit(&self.heap, items.as_slice()) {
             self.make(array(proto, items))
         } else {
             discard(items);
@@ -103,7 +101,7 @@ impl State {
         ensures { (nodes : List kind.Node) (supply : ℕ → ℕ) → IfOk result (λ got. Allocates (Cell.Closure (bare BuiltIn.FunctionPrototype (world_of nodes supply self.old)) node.0 env receiver) self.old self.new got) }
     {
         let proto = self.built_in(BuiltIn::FunctionPrototype);
-        if is_prototype(&self.heap, proto)
+        if is_prototype(&self.heap, &proto)
             && is_cell(&self.heap, env)
             && is_fit_option(&self.heap, &receiver)
         {
@@ -139,7 +137,7 @@ impl State {
     {
         let proto = self.built_in(error_prototype(error));
         let properties = message_table(self.alloc, message)?;
-        if is_prototype(&self.heap, proto) {
+        if is_prototype(&self.heap, &proto) {
             self.make(error_of(proto, properties, error_number(error)))
         } else {
             discard(properties);

@@ -33,21 +33,21 @@ pub fn is_cell(heap: &Heap, loc: Loc) -> bool
 }
 
 /// Whether a prototype is there and is no environment, where there is one.
-pub fn is_prototype(heap: &Heap, proto: Option<Loc>) -> bool
-    ensures { result ≡ true → OptionOver (IsNoEnv nat_eq heap.now.cells) proto }
+pub fn is_prototype(heap: &Heap, proto: &Option<Loc>) -> bool
+    ensures { result ≡ true → OptionOver (IsNoEnv nat_eq heap.now.cells) proto.now }
 {
     match proto {
-        Some(loc) => is_object(heap, loc),
+        Some(loc) => is_object(heap, *loc),
         None => true,
     }
 }
 
 /// Whether an outer environment is there, where there is one.
-pub fn is_outer(heap: &Heap, outer: Option<Loc>) -> bool
-    ensures { result ≡ true → OptionOver (IsCell nat_eq heap.now.cells) outer }
+pub fn is_outer(heap: &Heap, outer: &Option<Loc>) -> bool
+    ensures { result ≡ true → OptionOver (IsCell nat_eq heap.now.cells) outer.now }
 {
     match outer {
-        Some(loc) => is_cell(heap, loc),
+        Some(loc) => is_cell(heap, *loc),
         None => true,
     }
 }

@@ -6,7 +6,9 @@ mod cells;
 mod fitting;
 mod frame;
 mod state;
+mod throwing;
 
+pub use basic::stopped;
 pub use frame::{
     AfterFrame, CallFrame, CallTarget, ForLoop, Frame, Key, LiteralFrame, OperandFrame,
     PatternFrame, Place, PropertyFrame, StatementFrame, Use, ValueFrame,

@@ -23,8 +23,8 @@ pub fn is_truthy(value: &Value) -> bool
     }
 }
 
-// An ASCII text of fewer than 128 bytes, as units.
-fn short_text(alloc: Global, text: &str) -> Result<Units, AllocError>
+/// An ASCII text of fewer than 128 bytes, as units.
+pub fn short_text(alloc: Global, text: &str) -> Result<Units, AllocError>
     requires { length text.now < 128 }
     ensures { IfOk result (λ units. units ≡ text.now) }
 {

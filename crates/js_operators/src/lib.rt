@@ -14,7 +14,7 @@ mod unary;
 pub use answer::{Answer, settled_alike};
 pub use binary::of_operands;
 pub use bits::byte_of;
-pub use convert::{is_truthy, key_of, primitive_text, same_text, strictly_equal};
+pub use convert::{is_truthy, key_of, primitive_text, same_text, short_text, strictly_equal};
 pub use numbers::of_numbers;
 pub use points::point_end;
 pub use texts::{joined_text, made_text, of_texts};

@@ -1,5 +1,4 @@
 use Rattle.std.proofs.Common.{nat_eq}
-use Rattle.std.proofs.lemmas.List.Lists.{next_at, drop_of_length-le}
 use Rattle.world_heap.specs.Heaps.{IsNoEnv}
 use Rattle.world_heap.specs.Over.{ListOver, OptionOver, ValueOver}
 use Rattle.js_machine.proofs.Testing.{over_take, over_all}

@@ -1,0 +1,5 @@
+use Rattle.js_machine.proofs.Messages.{message_short}
+use Rattle.js_machine.proofs.throwing.message.Goals as goal
+
+pub short_text-requires : goal.short_text-requires
+short_text-requires c = ?
