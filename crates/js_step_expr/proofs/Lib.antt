@@ -1,0 +1,5 @@
+pub mod Applied
+pub mod Passing
+pub mod Settled
+pub mod Templates
+pub mod Words

@@ -37,11 +37,10 @@ pub fn and_left(
 ) -> Result<Next, StepFault>
     ensures { (nodes : List kind.Node) → IfOk result (λ next. Does nodes 6 (operand_rest nodes (OperandFrame.And right scope) left) state.old state.new next) }
 {
-    if is_truthy(&left) {
-        pass(state, right, scope)
-    } else {
-        state.give(Outcome::Normal(left))
+    if !is_truthy(&left) {
+        return state.give(Outcome::Normal(left));
     }
+    pass(state, right, scope)
 }
 
 /// `left || right` (ECMA-262, 13.13): enters the left side.

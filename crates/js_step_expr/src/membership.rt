@@ -1,5 +1,5 @@
 //! The operator `in` (ECMA-262, 13.10.1).
-ghost use Rattle.std.specs.Prelude.{◌≡◌, ℕ, nat_eq, IfOk, OnSome, Some};
+ghost use Rattle.std.specs.Prelude.{◌≡◌, ℕ, nat_eq, IfOk, IfSome, Some};
 ghost use Rattle.world_heap.specs.Heaps.{IsCell};
 ghost use Rattle.world_heap.specs.declared.value.Value as values;
 ghost use Rattle.js_semantics.specs.World.{World, over};
@@ -19,7 +19,7 @@ use world_heap::{Cell, Heap, Loc, Value};
 // The location of an object, where a value is one; a symbol is none.
 fn object_of(heap: &Heap, value: &Value) -> Result<Option<Loc>, StepFault>
     ensures is { (w : World ℕ) → IfOk result (λ found. found ≡ object_of value.now (over heap.now w)) }
-    ensures stands { IfOk result (λ found. OnSome found (λ loc. IsCell nat_eq heap.now.cells loc)) }
+    ensures stands { IfOk result (λ found. IfSome found (λ loc. IsCell nat_eq heap.now.cells loc)) }
 {
     match value {
         Value::Ref(loc) => object_at(heap, *loc),
@@ -28,8 +28,8 @@ fn object_of(heap: &Heap, value: &Value) -> Result<Option<Loc>, StepFault>
 }
 
 fn object_at(heap: &Heap, loc: Loc) -> Result<Option<Loc>, StepFault>
-    ensures is { (w : World ℕ) → IfOk result (λ found. found ≡ object_of (values.Ref loc) (over heap.now w)) }
-    ensures stands { IfOk result (λ found. OnSome found (λ at. IsCell nat_eq heap.now.cells at)) }
+    ensures is { (w : World ℕ) → IfOk result (λ found. found ≡ object_of (Value.Ref loc) (over heap.now w)) }
+    ensures stands { IfOk result (λ found. IfSome found (λ at. IsCell nat_eq heap.now.cells at)) }
 {
     match heap.get(loc) {
         Some(Cell::Symbol { .. }) => Ok(None),

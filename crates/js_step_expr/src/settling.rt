@@ -1,9 +1,8 @@
 //! What an operator comes to: a value, or the end of the step.
-ghost use Rattle.std.specs.Prelude.{◌≡◌, ◌≤◌, ℕ, length, List, IfOk};
+ghost use Rattle.std.specs.Prelude.{◌≡◌, ℕ, List, IfOk};
 ghost use Rattle.world_heap.specs.declared.value.Value as values;
-ghost use Rattle.world_heap.specs.declared.value.Value.TheVariants.{Str};
 ghost use Rattle.js_tree.specs.declared.node.Node as kind;
-ghost use Rattle.js_semantics.specs.Prog.{Prog, count_units, give};
+ghost use Rattle.js_semantics.specs.Prog.{Prog, give, make_text};
 ghost use Rattle.js_semantics.specs.Expressions.{compute};
 ghost use Rattle.js_operators.specs.Answers.{computed_of};
 ghost use Rattle.js_machine.specs.Does.{Does};
@@ -15,9 +14,9 @@ use js_semantics::{Outcome, StepFault, Stop};
 use wl_text::Units;
 use world_heap::Value;
 
-// The units of a text are counted where it is made.
-fn count_text(state: &mut State, text: Units) -> Result<Value, Next>
-    ensures { (nodes : List kind.Node) (k : values.Value ℕ → Prog ℕ) → Settles nodes (count_units (length text) (k (Str text))) k state.old state.new result }
+/// Makes a text: its units are counted, or the world stops where they would pass the limit.
+pub fn make_text(state: &mut State, text: Units) -> Result<Value, Next>
+    ensures { (nodes : List kind.Node) (k : values.Value ℕ → Prog ℕ) → Settles nodes (make_text text k) k state.old state.new result }
 {
     if state.count_units(text.len()) {
         Ok(Value::Str(text))
@@ -36,7 +35,7 @@ pub fn settle(state: &mut State, answer: Answer) -> Result<Result<Value, Next>, 
 {
     match answer {
         Answer::Is(value) => Ok(Ok(value)),
-        Answer::Makes(text) => Ok(count_text(state, text)),
+        Answer::Makes(text) => Ok(make_text(state, text)),
         Answer::Fails(fault) => Ok(Err(state.throw(fault)?)),
     }
 }

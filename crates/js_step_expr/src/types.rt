@@ -10,7 +10,7 @@ ghost use Rattle.js_machine.specs.Frames.{after_rest, operand_rest};
 
 use crate::entering::enter_operand;
 use js_machine::{AfterFrame, Next, OperandFrame, State};
-use js_operators::type_word;
+use js_operators::{short_text, type_word};
 use js_semantics::{Outcome, Scope, StepFault};
 use js_tree::NodeId;
 use std::alloc::Global;
@@ -32,10 +32,8 @@ pub fn row_typeof_value(
 fn type_text(alloc: Global, heap: &Heap, value: &Value) -> Result<Units, StepFault>
     ensures { (w : World ℕ) → IfOk result (λ text. text ≡ type_word value.now (over heap.now w)) }
 {
-    match Units::of_text(alloc, type_word(heap, value)) {
-        Ok(text) => Ok(text),
-        Err(_) => Err(StepFault::Memory),
-    }
+    let word = type_word(heap, value);
+    Ok(short_text(alloc, word)?)
 }
 
 /// Gives the word for the type of a value (ECMA-262, 13.5.3), which counts no units.
