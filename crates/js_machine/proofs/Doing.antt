@@ -102,6 +102,13 @@ entered nodes n old new r frame c le e some frames_are is =
       stays = heap_is ∙ sym (ap (λ h. record old.heap { cells = h.cells; counts = h.counts }) heap_is);
     }
 
+-- the same, where the frame is pushed first
+pub entered_by : (nodes : List Node) (n : ℕ) (old mid new : State) (r : Request ℕ) (frame : Option (Frame ℕ)) (c : Control ℕ) → 2 ≤ n → IsEntered c r → old.steps ≢ 0 → mid.frames.items ≡ old.frames.items ++ option_to_list frame → mid ≡ record old { frames = mid.frames } → new ≡ record mid { steps = mid.steps - 1; control = c } → Does nodes n (Enter r (λ o. under_frame nodes frame o)) old new Go
+entered_by nodes n old mid new r frame c le e some frames_are pushed is =
+    let now : State = record mid { steps = mid.steps - 1; control = c } in
+    let whole : now ≡ record old { steps = old.steps - 1; control = c; frames = now.frames } = ap (λ (s : State). record s { steps = s.steps - 1; control = c; frames = mid.frames }) pushed in
+    rw is (entered nodes n old now r frame c le e some frames_are whole)
+
 -- what follows a reading is done over its frame
 pub handed : (nodes : List Node) (old new : State) (frame : AfterFrame ℕ) (v : Value ℕ) → new.frames.items ≡ old.frames.items ++ frames.After frame ∷ [] → new ≡ record old { control = controls.Give (Normal v); frames = new.frames } → Does nodes 6 (after_rest nodes frame v) old new Go
 unfolding run

@@ -2,3 +2,4 @@ pub mod Doing
 pub mod Allocating
 pub mod Testing
 pub mod Messages
+pub mod Errors

@@ -1,17 +1,18 @@
 -- Lists whose members are tested one after another, and the places of cells.
-use Rattle.std.proofs.Common.{◌≡◌, ℕ, zero, suc, ◌+◌, ◌≤◌, List, [], ◌∷◌, length, take, Option, Some, None, refl, ap, arith, add-one, option_map}
+use Rattle.std.proofs.Common.{◌≡◌, ℕ, zero, suc, ◌+◌, ◌≤◌, ◌<◌, List, [], ◌∷◌, length, take, get_or, refl, arith, add-one}
+use Rattle.std.specs.Prelude.{option_map}
 use Rattle.std.specs.Prelude.{slice_get}
 use Rattle.world_heap.specs.Over.{ListOver}
 use Rattle.world_heap.specs.Maps.{keys}
 
-over_take-suc : {A : Type 0} (P : A → Type 0) (xs : List A) (i : ℕ) (x : A) → ListOver P (take i xs) → slice_get xs i ≡ Some x → P x → ListOver P (take (suc i) xs)
-over_take-suc P [] i x h at p = absurd (cc)
-over_take-suc P (y ∷ ys) zero x h at p = let e : y ≡ x = cc in (rw e p, tt)
-over_take-suc P (y ∷ ys) (suc i) x h at p = (h.0, over_take-suc P ys i x h.1 at p)
+over_take-suc : {A : Type 0} (P : A → Type 0) (xs : List A) (i : ℕ) (x : A) → ListOver P (take i xs) → i < length xs → x ≡ get_or xs i x → P x → ListOver P (take (suc i) xs)
+over_take-suc P [] i x h le at p = absurd (omega arith)
+over_take-suc P (y ∷ ys) zero x h le at p = (rw at at p, tt)
+over_take-suc P (y ∷ ys) (suc i) x h le at p = (h.0, over_take-suc P ys i x h.1 (omega arith) at p)
 
 -- one more member has the property
-pub over_take : {A : Type 0} (P : A → Type 0) (xs : List A) (i : ℕ) (x : A) → ListOver P (take i xs) → slice_get xs i ≡ Some x → P x → ListOver P (take (i + 1) xs)
-over_take P xs i x h at p = rw add-one (over_take-suc P xs i x h at p)
+pub over_take : {A : Type 0} (P : A → Type 0) (xs : List A) (i : ℕ) (x : A) → ListOver P (take i xs) → i < length xs → x ≡ get_or xs i x → P x → ListOver P (take (i + 1) xs)
+over_take P xs i x h le at p = rw add-one (over_take-suc P xs i x h le at p)
 
 -- and at last all have it
 pub over_all : {A : Type 0} (P : A → Type 0) (xs : List A) (i : ℕ) → length xs ≤ i → ListOver P (take i xs) → ListOver P xs

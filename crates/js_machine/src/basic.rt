@@ -33,8 +33,8 @@ impl State {
         Ok(Next::Go)
     }
 
-    // What follows a reading is done with the value.
-    fn hand(&mut self, frame: AfterFrame, value: Value) -> Result<Next, StepFault>
+    /// What follows a reading is done with the value.
+    pub fn hand(&mut self, frame: AfterFrame, value: Value) -> Result<Next, StepFault>
         ensures { (nodes : List kind.Node) → IfOk result (λ next. Does nodes 6 (after_rest nodes frame value) self.old self.new next) }
     {
         self.frames.push(Frame::After(frame))?;
@@ -42,8 +42,8 @@ impl State {
         Ok(Next::Go)
     }
 
-    // Puts a frame on the stack, where there is one.
-    fn push(&mut self, frame: Option<Frame>) -> Result<(), StepFault>
+    /// Puts a frame on the stack, where there is one. For want of memory the frame is lost.
+    pub fn push(&mut self, frame: Option<Frame>) -> Result<(), StepFault>
         ensures frames { OnOk result (self.new.frames.items ≡ self.old.frames.items ++ option_to_list frame) }
         ensures rest { self.new ≡ record self.old { frames = self.new.frames } }
     {
@@ -56,8 +56,8 @@ impl State {
         }
     }
 
-    // Says what is next.
-    fn turn_to(&mut self, control: Control)
+    /// Says what is next.
+    pub fn turn_to(&mut self, control: Control)
         ensures { self.new ≡ record self.old { control = control } }
     {
         discard(std::mem::replace(&mut self.control, control));
