@@ -1,5 +1,5 @@
 -- What operators between two operands come to.
-use Rattle.std.proofs.Common.{◌≡◌, ◌≢◌, ℕ, List, Bool, true, false, not, if◌then◌else◌, nat_eq, Option, Some, None, refl, sym, ap, ◌∙◌, absurd}
+use Rattle.std.proofs.Common.{◌≡◌, ◌≢◌, ℕ, List, Bool, true, false, not, if◌then◌else◌, nat_eq, Option, Some, None, refl, sym, ap, ◌∙◌}
 use Rattle.world_heap.specs.declared.value.Value.{Value}
 use Rattle.world_heap.specs.declared.value.Value.TheVariants.{Bool as Boolean}
 use Rattle.js_tree.specs.declared.node.Node.{Node}
@@ -7,7 +7,7 @@ use Rattle.js_tree.specs.declared.node.BinaryOperator.{BinaryOperator}
 use Rattle.js_tree.specs.declared.node.BinaryOperator.TheVariants.{Add, Subtract, Multiply, Divide, Remainder, Less, Greater, LessOrEqual, GreaterOrEqual, InstanceOf, In, StrictEqual, StrictNotEqual, BitAnd, BitOr, BitXor, ShiftLeft, ShiftRight, ShiftRightUnsigned}
 use Rattle.js_semantics.specs.declared.fault.Fault.TheVariants.{WrongOperand}
 use Rattle.js_semantics.specs.World.{World}
-use Rattle.js_semantics.specs.Prog.{Prog, Read, throw}
+use Rattle.js_semantics.specs.Prog.{Prog}
 use Rattle.js_semantics.specs.Properties.{object_of}
 use Rattle.js_semantics.specs.Operators.{Computed, Is, Fails, key_of, of_operands, strictly_equal}
 use Rattle.js_semantics.specs.Expressions.{apply, compute, has_key}

@@ -1,5 +1,5 @@
 -- What parts of rows come to that give a value, or end the step.
-use Rattle.std.proofs.Common.{◌≡◌, ℕ, suc, ◌≤◌, List, length, Bool, true, false, if◌then◌else◌, nat_lt, Result, Ok, Err, IfOk, refl, sym, ap, ◌∙◌, arith}
+use Rattle.std.proofs.Common.{◌≡◌, ℕ, suc, ◌≤◌, List, length, true, false, if◌then◌else◌, nat_lt, Result, Ok, Err, IfOk, refl, ap, arith}
 use Rattle.std.proofs.lemmas.Result.{IfOk-weaker}
 use Rattle.std.proofs.lemmas.Bool.Decides.{nat_tests}
 use Rattle.world_heap.specs.declared.value.Value.{Value}
@@ -9,14 +9,14 @@ use Rattle.js_semantics.specs.declared.fault.Fault.TheVariants.{TooLong}
 use Rattle.js_semantics.specs.declared.fault.StepFault.{StepFault}
 use Rattle.js_semantics.specs.declared.entry.Product.TheVariants.{Stopped}
 use Rattle.js_semantics.specs.declared.entry.Stop.TheVariants.{Units}
-use Rattle.js_semantics.specs.Prog.{Prog, count_units, give, make_text, throw}
+use Rattle.js_semantics.specs.Prog.{Prog, count_units, make_text, throw}
 use Rattle.js_semantics.specs.Operators.{Is}
 use Rattle.js_semantics.specs.Expressions.{compute}
 use Rattle.js_machine.specs.declared.state.State.{State}
 use Rattle.js_machine.specs.declared.state.Next.{Next}
 use Rattle.js_machine.specs.declared.state.Next.TheVariants.{Made}
 use Rattle.js_machine.specs.Does.{Does, Moves, CountsUnits}
-use Rattle.js_machine.proofs.Doing.{allowing, does_move_ok, moves_by, moves_on, does_move}
+use Rattle.js_machine.proofs.Doing.{moves_by, moves_on, does_move}
 use Rattle.js_machine.proofs.Allocating.{moves_units, does_not_units}
 use Rattle.js_step_expr.specs.Settling.{Settles}
 

@@ -1,5 +1,5 @@
 -- What a part of a row comes to that gives a value, or ends the step.
-use Rattle.std.specs.Prelude.{◌≡◌, ℕ, List, Result, Ok, Err}
+use Rattle.std.specs.Prelude.{ℕ, List, Result, Ok, Err}
 use Rattle.world_heap.specs.declared.value.Value.{Value}
 use Rattle.js_tree.specs.declared.node.Node.{Node}
 use Rattle.js_semantics.specs.Prog.{Prog}

@@ -11,10 +11,10 @@ ghost use Rattle.js_step_expr.specs.Settling.{Settles};
 
 use crate::entering::{copy_scope, enter_operand};
 use crate::membership::membership;
-use crate::settling::settle;
+use crate::settling::{finish, settle};
 use js_machine::{Next, OperandFrame, State};
 use js_operators::{Answer, of_operands, strictly_equal};
-use js_semantics::{Outcome, Scope, StepFault};
+use js_semantics::{Scope, StepFault};
 use js_tree::{BinaryOperator, NodeId};
 use world_heap::Value;
 
@@ -67,7 +67,7 @@ fn answer_of(
     ensures { (nodes : List kind.Node) (k : values.Value ℕ → Prog ℕ) → IfOk result (λ answer. Moves nodes (apply operator left.now right.now k) state.now (compute (computed_of answer) k) state.now) }
 {
     match operator {
-        BinaryOperator::In => membership(state.alloc, &state.heap, left, right),
+        BinaryOperator::In => Ok(membership(state.alloc, &state.heap, left, right)?),
         BinaryOperator::StrictEqual => Ok(Answer::Is(Value::Bool(strictly_equal(left, right)))),
         BinaryOperator::StrictNotEqual => {
             Ok(Answer::Is(Value::Bool(!strictly_equal(left, right))))
@@ -108,8 +108,6 @@ pub fn binary_right(
     requires { operator ≢ BinaryOperator.InstanceOf }
     ensures { (nodes : List kind.Node) → IfOk result (λ next. Does nodes 6 (operand_rest nodes (OperandFrame.BinaryRight operator left) right) state.old state.new next) }
 {
-    match apply(state, operator, &left, &right)? {
-        Ok(value) => state.give(Outcome::Normal(value)),
-        Err(next) => Ok(next),
-    }
+    let answer = answer_of(state, operator, &left, &right)?;
+    finish(state, answer)
 }

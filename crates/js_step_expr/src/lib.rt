@@ -20,5 +20,7 @@ pub use entering::{copy_scope, enter_operand, pass};
 pub use literal::{row_literal, row_text, row_this};
 pub use settling::{finish, make_text, settle};
 pub use template::{row_template, template_part};
-pub use types::{after_typeof, delete_value, give_type, row_delete_value, row_typeof_value, typeof_value};
+pub use types::{
+    after_typeof, delete_value, give_type, row_delete_value, row_typeof_value, typeof_value,
+};
 pub use unary::{row_unary, unary_operand};

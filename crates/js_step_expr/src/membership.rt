@@ -4,7 +4,7 @@ ghost use Rattle.world_heap.specs.Heaps.{IsCell};
 ghost use Rattle.world_heap.specs.declared.value.Value as values;
 ghost use Rattle.js_semantics.specs.World.{World, over};
 ghost use Rattle.js_semantics.specs.Prog.{Prog};
-ghost use Rattle.js_semantics.specs.Properties.{has_property, object_of};
+ghost use Rattle.js_semantics.specs.Properties.{has_property, is_symbol, object_of};
 ghost use Rattle.js_semantics.specs.Operators.{key_of};
 ghost use Rattle.js_semantics.specs.Expressions.{compute, has_key};
 ghost use Rattle.js_operators.specs.Answers.{computed_of};
@@ -27,13 +27,25 @@ fn object_of(heap: &Heap, value: &Value) -> Result<Option<Loc>, StepFault>
     }
 }
 
+// Whether a cell is a symbol, which is no object.
+fn is_symbol(cell: &Cell) -> bool
+    ensures { result ≡ is_symbol (Some cell.now) }
+{
+    matches!(cell, Cell::Symbol { .. })
+}
+
+// The location of a cell, where it is an object.
 fn object_at(heap: &Heap, loc: Loc) -> Result<Option<Loc>, StepFault>
     ensures is { (w : World ℕ) → IfOk result (λ found. found ≡ object_of (Value.Ref loc) (over heap.now w)) }
     ensures stands { IfOk result (λ found. IfSome found (λ at. IsCell nat_eq heap.now.cells at)) }
 {
     match heap.get(loc) {
-        Some(Cell::Symbol { .. }) => Ok(None),
-        Some(_) => Ok(Some(loc)),
+        Some(cell) => {
+            if is_symbol(cell) {
+                return Ok(None);
+            }
+            Ok(Some(loc))
+        }
         None => Err(StepFault::Dangling),
     }
 }

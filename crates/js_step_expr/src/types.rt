@@ -18,11 +18,7 @@ use wl_text::Units;
 use world_heap::{Heap, Value};
 
 /// `typeof` before an expression that is no name (ECMA-262, 13.5.3): enters it.
-pub fn row_typeof_value(
-    state: &mut State,
-    operand: NodeId,
-    scope: Scope,
-) -> Result<Next, StepFault>
+pub fn row_typeof_value(state: &mut State, operand: NodeId, scope: Scope) -> Result<Next, StepFault>
     ensures { (nodes : List kind.Node) → IfOk result (λ next. Does nodes 6 (eval operand scope (λ v. give_type v)) state.old state.new next) }
 {
     enter_operand(state, OperandFrame::Typeof, operand, scope)
@@ -61,11 +57,7 @@ pub fn after_typeof(state: &mut State, value: Value) -> Result<Next, StepFault>
 }
 
 /// `delete` before an expression that is no property (ECMA-262, 13.5.1): enters it.
-pub fn row_delete_value(
-    state: &mut State,
-    operand: NodeId,
-    scope: Scope,
-) -> Result<Next, StepFault>
+pub fn row_delete_value(state: &mut State, operand: NodeId, scope: Scope) -> Result<Next, StepFault>
     ensures { (nodes : List kind.Node) → IfOk result (λ next. Does nodes 6 (eval operand scope (λ v. give (Boolean true))) state.old state.new next) }
 {
     enter_operand(state, OperandFrame::Delete, operand, scope)

@@ -11,4 +11,4 @@ returns-in-Makes c nodes k = rw c.in-Makes.is (c.make_text.ensures nodes k)
 
 pub returns-in_ok-throw-in-Fails : goal.returns-in_ok-throw-in-Fails
 unfolding compute
-returns-in_ok-throw-in-Fails c nodes k = rw c.in-Fails.is (rw c.in_ok-throw.is at (c.throw.ensures.few nodes))
+returns-in_ok-throw-in-Fails c nodes k = rw c.in-Fails.is (c.in_ok-throw-in-Fails.ensures.few nodes)
