@@ -10,7 +10,7 @@ use Rattle.js_semantics.specs.World.{World}
 use Rattle.js_semantics.specs.Prog.{Prog}
 use Rattle.js_semantics.specs.Properties.{object_of}
 use Rattle.js_semantics.specs.Operators.{Computed, Is, Fails, key_of, of_operands, strictly_equal}
-use Rattle.js_semantics.specs.Expressions.{apply, compute, has_key}
+use Rattle.js_semantics.specs.Expressions.{apply, compute, has_key, instance_of}
 use Rattle.js_operators.specs.Answers.{settled}
 use Rattle.js_operators.proofs.Settled.{alike}
 use Rattle.js_machine.specs.declared.state.State.{State}
@@ -74,3 +74,12 @@ not_is false = refl
 pub moves_unequal : (nodes : List Node) (x y : Value ℕ) (b : Bool) (k : Value ℕ → Prog ℕ) (s : State) → b ≡ strictly_equal nat_eq x y → Moves nodes (apply StrictNotEqual x y k) s (compute (Is (Boolean (not b))) k) s
 unfolding apply compute
 moves_unequal nodes x y b k s is = moves_read nodes (λ w. k (Boolean (if strictly_equal w.same x y then false else true))) (k (Boolean (not b))) s (λ supply. ap (λ t. k (Boolean t)) (not_is (strictly_equal nat_eq x y) ∙ ap not (sym is)))
+
+-- `instanceof` is left
+pub moves_instance : (nodes : List Node) (x y : Value ℕ) (k : Value ℕ → Prog ℕ) (s : State) → Moves nodes (apply InstanceOf x y k) s (instance_of x y k) s
+unfolding apply
+moves_instance nodes x y k s = moves_by nodes (instance_of x y k) (instance_of x y k) s (λ supply ds j. refl)
+
+-- all is left
+pub moves_nowhere : (nodes : List Node) (p : Prog ℕ) (s : State) → Moves nodes p s p s
+moves_nowhere nodes p s = moves_by nodes p p s (λ supply ds j. refl)

@@ -7,7 +7,7 @@ ghost use Rattle.js_semantics.specs.Expressions.{row_and, row_or, row_nullish, r
 ghost use Rattle.js_machine.specs.Does.{Does};
 ghost use Rattle.js_machine.specs.Frames.{operand_rest};
 
-use crate::entering::{copy_scope, enter_operand, pass};
+use crate::entering::{copy_scope, discard, enter_operand, pass};
 use js_machine::{Next, OperandFrame, State};
 use js_operators::is_truthy;
 use js_semantics::{Outcome, Scope, StepFault};
@@ -170,6 +170,3 @@ pub fn seq_first(
     discard(first);
     pass(state, second, scope)
 }
-
-// Lets a value go.
-fn discard<T: Drop>(_value: T) {}

@@ -10,6 +10,9 @@ use js_semantics::{Scope, StepFault};
 use js_tree::NodeId;
 use std::alloc::Global;
 
+/// Lets a value go. A generic function keeps the cases of its drop out of its callers' proofs.
+pub(crate) fn discard<T: Drop>(_value: T) {}
+
 /// The same scope again. The cost is constant, but where its receiver is a string linear in the units.
 pub fn copy_scope(alloc: Global, scope: &Scope) -> Result<Scope, StepFault>
     ensures { IfOk result (λ copy. copy ≡ scope.now) }

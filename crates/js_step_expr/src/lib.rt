@@ -1,9 +1,11 @@
 //! The rows of operators and operands: what is evaluated, in which order, and what is done with the values.
 #![tactic(auto)]
 
+mod after;
 mod binary;
 mod choice;
 mod entering;
+mod frames;
 mod literal;
 mod membership;
 mod settling;
@@ -11,16 +13,16 @@ mod template;
 mod types;
 mod unary;
 
+pub use after::{after_give, after_result, after_typeof};
 pub use binary::{apply, binary_left, binary_right, row_binary};
 pub use choice::{
     and_left, cond_test, nullish_left, or_left, row_and, row_cond, row_nullish, row_or, row_seq,
     seq_first,
 };
 pub use entering::{copy_scope, enter_operand, pass};
+pub use frames::{Remaining, operand};
 pub use literal::{row_literal, row_text, row_this};
 pub use settling::{finish, make_text, settle};
 pub use template::{row_template, template_part};
-pub use types::{
-    after_typeof, delete_value, give_type, row_delete_value, row_typeof_value, typeof_value,
-};
+pub use types::{delete_value, give_type, row_delete_value, row_typeof_value, typeof_value};
 pub use unary::{row_unary, unary_operand};

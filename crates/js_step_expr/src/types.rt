@@ -6,10 +6,10 @@ ghost use Rattle.js_semantics.specs.World.{World, over};
 ghost use Rattle.js_semantics.specs.Prog.{eval, give};
 ghost use Rattle.js_semantics.specs.Expressions.{give_type, type_word};
 ghost use Rattle.js_machine.specs.Does.{Does};
-ghost use Rattle.js_machine.specs.Frames.{after_rest, operand_rest};
+ghost use Rattle.js_machine.specs.Frames.{operand_rest};
 
-use crate::entering::enter_operand;
-use js_machine::{AfterFrame, Next, OperandFrame, State};
+use crate::entering::{discard, enter_operand};
+use js_machine::{Next, OperandFrame, State};
 use js_operators::{short_text, type_word};
 use js_semantics::{Outcome, Scope, StepFault};
 use js_tree::NodeId;
@@ -49,13 +49,6 @@ pub fn typeof_value(state: &mut State, value: Value) -> Result<Next, StepFault>
     give_type(state, value)
 }
 
-/// `typeof` with the value that was read of a name.
-pub fn after_typeof(state: &mut State, value: Value) -> Result<Next, StepFault>
-    ensures { (nodes : List kind.Node) → IfOk result (λ next. Does nodes 4 (after_rest nodes AfterFrame.Typeof value) state.old state.new next) }
-{
-    give_type(state, value)
-}
-
 /// `delete` before an expression that is no property (ECMA-262, 13.5.1): enters it.
 pub fn row_delete_value(state: &mut State, operand: NodeId, scope: Scope) -> Result<Next, StepFault>
     ensures { (nodes : List kind.Node) → IfOk result (λ next. Does nodes 6 (eval operand scope (λ v. give (Boolean true))) state.old state.new next) }
@@ -70,6 +63,3 @@ pub fn delete_value(state: &mut State, value: Value) -> Result<Next, StepFault>
     discard(value);
     state.give(Outcome::Normal(Value::Bool(true)))
 }
-
-// Lets a value go.
-fn discard<T: Drop>(_value: T) {}
