@@ -3,3 +3,4 @@ pub mod Passing
 pub mod Settled
 pub mod Templates
 pub mod Words
+pub mod Written

@@ -1,5 +1,5 @@
 -- What a frame of an operator comes to, where what is left may call code.
-use Rattle.std.specs.Prelude.{◌≡◌, ℕ, List, Result, Ok, Err, Option, Some, None}
+use Rattle.std.specs.Prelude.{ℕ, List, Result, Ok, Err, Some, None}
 use Rattle.js_tree.specs.declared.node.Node.{Node}
 use Rattle.js_semantics.specs.Prog.{Prog, give}
 use Rattle.js_semantics.specs.Expressions.{instance_of}

@@ -1,6 +1,5 @@
 //! Template literals (ECMA-262, 13.2.8).
 ghost use Rattle.std.specs.Prelude.{◌≡◌, ◌++◌, [], ℕ, drop, map, slice_get, List, IfOk};
-ghost use Rattle.std.specs.Option.{option_copied};
 ghost use Rattle.js_tree.specs.declared.node.Node as kind;
 ghost use Rattle.js_semantics.specs.Prog.{give, make_text};
 ghost use Rattle.js_semantics.specs.Expressions.{first_text, row_template, template_from};
@@ -10,6 +9,7 @@ ghost use Rattle.js_machine.specs.Frames.{operand_rest};
 
 use crate::entering::{copy_scope, enter_operand};
 use crate::settling::finish;
+use crate::targets::node_at;
 use js_machine::{Next, OperandFrame, State};
 use js_operators::{Answer, primitive_text};
 use js_semantics::{Fault, Scope, StepFault};
@@ -18,17 +18,6 @@ use sqlite_items::{Items, at};
 use std::alloc::Global;
 use wl_text::{TextFault, Units};
 use world_heap::Value;
-
-// The node with a number, where there is one.
-fn node_at(tree: &Tree, node: NodeId) -> Option<&Node>
-    ensures { option_copied result ≡ slice_get (map (λ n. n.0) tree.now) node.0 }
-{
-    if node.0 < tree.len() {
-        Some(tree.node(node))
-    } else {
-        None
-    }
-}
 
 // The texts of a template.
 #[tactic(auto, unfolding(js_machine::specs::Parts::texts_of))]

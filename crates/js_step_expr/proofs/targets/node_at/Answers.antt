@@ -1,7 +1,7 @@
 use Rattle.std.proofs.Common.{sym, ◌∙◌}
 use Rattle.std.proofs.lemmas.Option.{slice_get-map, slice_get_past}
 use Rattle.js_tree.specs.Nodes.{node_at}
-use Rattle.js_step_expr.proofs.template.node_at.Goals as goal
+use Rattle.js_step_expr.proofs.targets.node_at.Goals as goal
 
 pub returns-then-node-len : goal.returns-then-node-len
 unfolding node_at

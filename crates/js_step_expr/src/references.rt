@@ -1,0 +1,167 @@
+//! Rows of references (ECMA-262, 13.3, 13.5.1 and 13.15): properties, `delete` and assignments enter their parts.
+ghost use Rattle.std.specs.Prelude.{List, IfOk, map, slice_get};
+ghost use Rattle.js_tree.specs.declared.node.Node as kind;
+ghost use Rattle.js_semantics.specs.Prog.{eval, step};
+ghost use Rattle.js_semantics.specs.Expressions.{row_assign, row_delete, row_dot, row_index};
+ghost use Rattle.js_machine.specs.Parts.{name_of};
+ghost use Rattle.js_machine.specs.Does.{Does};
+ghost use Rattle.js_machine.specs.Frames.{operand_rest};
+ghost use Rattle.js_step_expr.specs.Targets.{of_index, of_object};
+
+use crate::entering::{copy_scope, enter_operand};
+use crate::targets::{Target, target_of};
+use crate::types::row_delete_value;
+use js_machine::{
+    Frame, Next, OperandFrame, Place, PropertyFrame, State, Use, ValueFrame, stopped,
+};
+use js_semantics::{Fault, Scope, StepFault, Stop};
+use js_tree::{NodeId, Tree};
+
+// Enters the object of a property that is named by a node.
+fn enter_object(
+    state: &mut State,
+    node: NodeId,
+    object: NodeId,
+    usage: Use,
+    scope: Scope,
+) -> Result<Next, StepFault>
+    ensures { (nodes : List kind.Node) → IfOk result (λ next. Does nodes 6 (of_object nodes node object usage scope) state.old state.new next) }
+{
+    let inner = copy_scope(state.alloc, &scope)?;
+    let frame = PropertyFrame::DotObject { node, usage, scope };
+    state.enter(Frame::OnValue(ValueFrame::Property(frame)), object, inner)
+}
+
+// Enters the object of a property whose key follows.
+fn enter_indexed(
+    state: &mut State,
+    object: NodeId,
+    key: NodeId,
+    usage: Use,
+    scope: Scope,
+) -> Result<Next, StepFault>
+    ensures { (nodes : List kind.Node) → IfOk result (λ next. Does nodes 6 (of_index nodes object key usage scope) state.old state.new next) }
+{
+    let inner = copy_scope(state.alloc, &scope)?;
+    let frame = PropertyFrame::IndexObject { key, usage, scope };
+    state.enter(Frame::OnValue(ValueFrame::Property(frame)), object, inner)
+}
+
+/// `object.name` (ECMA-262, 13.3.2): enters the object. The node is that of the row, which has the name.
+#[tactic(auto, unfolding(js_semantics::specs::Expressions::row_dot))]
+pub fn row_dot(
+    state: &mut State,
+    node: NodeId,
+    object: NodeId,
+    scope: Scope,
+) -> Result<Next, StepFault>
+    ensures { (nodes : List kind.Node) → IfOk result (λ next. Does nodes 6 (row_dot object (name_of (slice_get nodes node.0)) scope) state.old state.new next) }
+{
+    enter_object(state, node, object, Use::Get, scope)
+}
+
+/// `object[key]` (ECMA-262, 13.3.2): enters the object.
+#[tactic(auto, unfolding(js_semantics::specs::Expressions::row_index))]
+pub fn row_index(
+    state: &mut State,
+    object: NodeId,
+    key: NodeId,
+    scope: Scope,
+) -> Result<Next, StepFault>
+    ensures { (nodes : List kind.Node) → IfOk result (λ next. Does nodes 6 (row_index object key scope) state.old state.new next) }
+{
+    enter_indexed(state, object, key, Use::Get, scope)
+}
+
+// Takes the step of the node of a property, and enters its object.
+fn step_object(
+    state: &mut State,
+    node: NodeId,
+    object: NodeId,
+    usage: Use,
+    scope: Scope,
+) -> Result<Next, StepFault>
+    ensures { (nodes : List kind.Node) → IfOk result (λ next. Does nodes 6 (step (of_object nodes node object usage scope)) state.old state.new next) }
+{
+    if !state.step_down() {
+        return Ok(stopped(Stop::Fuel));
+    }
+    enter_object(state, node, object, usage, scope)
+}
+
+// Takes the step of the node of a property whose key is evaluated, and enters its object.
+fn step_indexed(
+    state: &mut State,
+    object: NodeId,
+    key: NodeId,
+    usage: Use,
+    scope: Scope,
+) -> Result<Next, StepFault>
+    ensures { (nodes : List kind.Node) → IfOk result (λ next. Does nodes 6 (step (of_index nodes object key usage scope)) state.old state.new next) }
+{
+    if !state.step_down() {
+        return Ok(stopped(Stop::Fuel));
+    }
+    enter_indexed(state, object, key, usage, scope)
+}
+
+// Takes the step of the node of a name, and enters the value that is assigned.
+fn step_value(
+    state: &mut State,
+    frame: OperandFrame,
+    value: NodeId,
+    scope: Scope,
+) -> Result<Next, StepFault>
+    ensures { (nodes : List kind.Node) → IfOk result (λ next. Does nodes 6 (step (eval value scope (λ v. operand_rest nodes frame v))) state.old state.new next) }
+{
+    if !state.step_down() {
+        return Ok(stopped(Stop::Fuel));
+    }
+    enter_operand(state, frame, value, scope)
+}
+
+/// `target = value` (ECMA-262, 13.15): takes the step of the target, and enters its first part or the value. What is no
+/// reference is the error `WrongOperand`.
+#[tactic(auto, unfolding(js_semantics::specs::Expressions::row_assign))]
+pub fn row_assign(
+    state: &mut State,
+    tree: &Tree,
+    target: NodeId,
+    value: NodeId,
+    scope: Scope,
+) -> Result<Next, StepFault>
+    ensures { IfOk result (λ next. Does (map (λ n. n.0) tree.now) 6 (row_assign target value scope) state.old state.new next) }
+{
+    match target_of(tree, target) {
+        Target::Name => {
+            let place = Place::Name {
+                node: target,
+                env: scope.env,
+            };
+            step_value(state, OperandFrame::AssignValue { place }, value, scope)
+        }
+        Target::Dot { object } => step_object(state, target, object, Use::Assign { value }, scope),
+        Target::Index { object, key } => {
+            step_indexed(state, object, key, Use::Assign { value }, scope)
+        }
+        Target::Other => state.throw(Fault::WrongOperand),
+    }
+}
+
+/// `delete` (ECMA-262, 13.5.1): takes the step of a property and enters its object, or enters what is no property.
+#[tactic(auto, unfolding(js_semantics::specs::Expressions::row_delete))]
+pub fn row_delete(
+    state: &mut State,
+    tree: &Tree,
+    operand: NodeId,
+    scope: Scope,
+) -> Result<Next, StepFault>
+    ensures { IfOk result (λ next. Does (map (λ n. n.0) tree.now) 6 (row_delete operand scope) state.old state.new next) }
+{
+    match target_of(tree, operand) {
+        Target::Dot { object } => step_object(state, operand, object, Use::Delete, scope),
+        Target::Index { object, key } => step_indexed(state, object, key, Use::Delete, scope),
+        Target::Name => row_delete_value(state, operand, scope),
+        Target::Other => row_delete_value(state, operand, scope),
+    }
+}
