@@ -13,14 +13,21 @@ use crate::entering::discard;
 use crate::template::template_part;
 use crate::types::{delete_value, typeof_value};
 use crate::unary::unary_operand;
-use js_machine::{Next, OperandFrame, Place, State};
+use js_machine::{AfterFrame, Next, OperandFrame, Place, State};
 use js_semantics::StepFault;
-use js_tree::{BinaryOperator, Tree};
+use js_tree::{BinaryOperator, NodeId, Tree};
 use world_heap::{Loc, Value};
 
 /// What is left of an operator's row, where it may call code of the script: a setter, or a getter.
 #[derive(Drop)]
 pub enum Remaining<L = Loc> {
+    /// The value of a name is read from an environment on, and then follows what the frame says. A name that is declared
+    /// nowhere is an error, but for `typeof`.
+    Read {
+        node: NodeId,
+        env: L,
+        frame: AfterFrame<L>,
+    },
     /// The place is written, and then the value given.
     Write {
         place: Place<L>,

@@ -24,7 +24,9 @@ pub use choice::{
 pub use entering::{copy_scope, enter_operand, pass};
 pub use frames::{Remaining, operand};
 pub use literal::{row_literal, row_text, row_this};
-pub use references::{row_assign, row_delete, row_dot, row_index};
+pub use references::{
+    row_assign, row_assign_with, row_delete, row_dot, row_index, row_typeof, row_update,
+};
 pub use settling::{finish, make_text, settle};
 pub use targets::Target;
 pub use template::{row_template, template_part};

@@ -2,20 +2,23 @@
 ghost use Rattle.std.specs.Prelude.{List, IfOk, map, slice_get};
 ghost use Rattle.js_tree.specs.declared.node.Node as kind;
 ghost use Rattle.js_semantics.specs.Prog.{eval, step};
-ghost use Rattle.js_semantics.specs.Expressions.{row_assign, row_delete, row_dot, row_index};
+ghost use Rattle.js_semantics.specs.Expressions.{row_assign, row_assign_with, row_delete, row_dot, row_index, row_typeof, row_update};
 ghost use Rattle.js_machine.specs.Parts.{name_of};
 ghost use Rattle.js_machine.specs.Does.{Does};
 ghost use Rattle.js_machine.specs.Frames.{operand_rest};
+ghost use Rattle.js_step_expr.specs.Left.{DoesOrComes, left_of};
 ghost use Rattle.js_step_expr.specs.Targets.{of_index, of_object};
 
-use crate::entering::{copy_scope, enter_operand};
+use crate::entering::{copy_scope, discard, enter_operand};
+use crate::frames::Remaining;
 use crate::targets::{Target, target_of};
-use crate::types::row_delete_value;
+use crate::types::{row_delete_value, row_typeof_value};
 use js_machine::{
-    Frame, Next, OperandFrame, Place, PropertyFrame, State, Use, ValueFrame, stopped,
+    AfterFrame, Frame, Next, OperandFrame, Place, PropertyFrame, State, Use, ValueFrame, stopped,
 };
 use js_semantics::{Fault, Scope, StepFault, Stop};
-use js_tree::{NodeId, Tree};
+use js_tree::{BinaryOperator, NodeId, Tree, UpdateOperator};
+use world_heap::Loc;
 
 // Enters the object of a property that is named by a node.
 fn enter_object(
@@ -120,6 +123,22 @@ fn step_value(
     enter_operand(state, frame, value, scope)
 }
 
+// Takes the step of the node of a name, which is to be read.
+fn step_name(
+    state: &mut State,
+    node: NodeId,
+    env: Loc,
+    frame: AfterFrame,
+) -> Result<Next, Remaining>
+    ensures { (nodes : List kind.Node) → DoesOrComes nodes (step (left_of nodes (Remaining.Read node env frame))) state.old state.new result }
+{
+    if !state.step_down() {
+        discard(frame);
+        return Ok(stopped(Stop::Fuel));
+    }
+    Err(Remaining::Read { node, env, frame })
+}
+
 /// `target = value` (ECMA-262, 13.15): takes the step of the target, and enters its first part or the value. What is no
 /// reference is the error `WrongOperand`.
 #[tactic(auto, unfolding(js_semantics::specs::Expressions::row_assign))]
@@ -163,5 +182,96 @@ pub fn row_delete(
         Target::Index { object, key } => step_indexed(state, object, key, Use::Delete, scope),
         Target::Name => row_delete_value(state, operand, scope),
         Target::Other => row_delete_value(state, operand, scope),
+    }
+}
+
+/// `typeof` (ECMA-262, 13.5.3): takes the step of a name, which is to be read, or enters what is no name.
+#[tactic(auto, unfolding(js_semantics::specs::Expressions::row_typeof))]
+pub fn row_typeof(
+    state: &mut State,
+    tree: &Tree,
+    operand: NodeId,
+    scope: Scope,
+) -> Result<Result<Next, Remaining>, StepFault>
+    ensures { IfOk result (λ r. DoesOrComes (map (λ n. n.0) tree.now) (row_typeof operand scope) state.old state.new r) }
+{
+    match target_of(tree, operand) {
+        Target::Name => Ok(step_name(state, operand, scope.env, AfterFrame::Typeof)),
+        Target::Dot { .. } => Ok(Ok(row_typeof_value(state, operand, scope)?)),
+        Target::Index { .. } => Ok(Ok(row_typeof_value(state, operand, scope)?)),
+        Target::Other => Ok(Ok(row_typeof_value(state, operand, scope)?)),
+    }
+}
+
+/// `++` and `--` (ECMA-262, 13.4): takes the step of the target; a name is to be read, and the object of a property is
+/// entered. What is no reference is the error `WrongOperand`.
+#[tactic(auto, unfolding(js_semantics::specs::Expressions::row_update))]
+pub fn row_update(
+    state: &mut State,
+    tree: &Tree,
+    operator: UpdateOperator,
+    target: NodeId,
+    before: bool,
+    scope: Scope,
+) -> Result<Result<Next, Remaining>, StepFault>
+    ensures { IfOk result (λ r. DoesOrComes (map (λ n. n.0) tree.now) (row_update operator target before scope) state.old state.new r) }
+{
+    match target_of(tree, target) {
+        Target::Name => {
+            let env = scope.env;
+            let place = Place::Name { node: target, env };
+            let frame = AfterFrame::Update {
+                operator,
+                before,
+                place,
+            };
+            Ok(step_name(state, target, env, frame))
+        }
+        Target::Dot { object } => {
+            let usage = Use::Update { operator, before };
+            Ok(Ok(step_object(state, target, object, usage, scope)?))
+        }
+        Target::Index { object, key } => {
+            let usage = Use::Update { operator, before };
+            Ok(Ok(step_indexed(state, object, key, usage, scope)?))
+        }
+        Target::Other => Ok(Ok(state.throw(Fault::WrongOperand)?)),
+    }
+}
+
+/// An assignment by an operator (ECMA-262, 13.15.2): takes the step of the target; a name is to be read, and the object
+/// of a property is entered. What is no reference is the error `WrongOperand`.
+#[tactic(auto, unfolding(js_semantics::specs::Expressions::row_assign_with))]
+pub fn row_assign_with(
+    state: &mut State,
+    tree: &Tree,
+    operator: BinaryOperator,
+    target: NodeId,
+    value: NodeId,
+    scope: Scope,
+) -> Result<Result<Next, Remaining>, StepFault>
+    ensures { IfOk result (λ r. DoesOrComes (map (λ n. n.0) tree.now) (row_assign_with operator target value scope) state.old state.new r) }
+{
+    match target_of(tree, target) {
+        Target::Name => {
+            let env = scope.env;
+            let place = Place::Name { node: target, env };
+            let frame = AfterFrame::AssignBy {
+                operator,
+                value,
+                place,
+                scope,
+            };
+            Ok(step_name(state, target, env, frame))
+        }
+        Target::Dot { object } => {
+            let usage = Use::AssignBy { operator, value };
+            Ok(Ok(step_object(state, target, object, usage, scope)?))
+        }
+        Target::Index { object, key } => {
+            let usage = Use::AssignBy { operator, value };
+            Ok(Ok(step_indexed(state, object, key, usage, scope)?))
+        }
+        Target::Other => Ok(Ok(state.throw(Fault::WrongOperand)?)),
     }
 }
