@@ -12,9 +12,9 @@ use Rattle.js_machine.specs.declared.frame.AfterFrame.{AfterFrame}
 use Rattle.js_machine.specs.declared.frame.AfterFrame.TheVariants as afters
 use Rattle.js_machine.specs.Parts.{name_of}
 use Rattle.js_machine.specs.Does.{Does, Moves}
-use Rattle.js_machine.specs.Frames.{after_rest, write_place}
+use Rattle.js_machine.specs.Frames.{after_rest, use_rest, write_place}
 use Rattle.js_step_expr.specs.declared.frames.Remaining.{Remaining}
-use Rattle.js_step_expr.specs.declared.frames.Remaining.TheVariants.{Read, Write, Instance}
+use Rattle.js_step_expr.specs.declared.frames.Remaining.TheVariants.{Read, Property, Write, Instance}
 
 -- what a name that is declared nowhere comes to: `typeof` takes it for undefined
 abbrev pub undeclared : AfterFrame ℕ → Prog ℕ
@@ -24,6 +24,7 @@ undeclared other = throw NotDefined
 -- what is left, in the words of the language's meaning
 abbrev pub left_of : List Node → Remaining ℕ → Prog ℕ
 left_of nodes (Read node env frame) = read_name env (name_of (slice_get nodes node.0)) (undeclared frame) (λ v. after_rest nodes frame v)
+left_of nodes (Property base key usage scope) = use_rest nodes usage base key scope
 left_of nodes (Write place value) = write_place nodes place value (give value)
 left_of nodes (Instance left right None) = instance_of left right (λ v. give v)
 left_of nodes (Instance left right (Some place)) = instance_of left right (λ v. write_place nodes place v (give v))

@@ -13,8 +13,8 @@ use crate::entering::discard;
 use crate::template::template_part;
 use crate::types::{delete_value, typeof_value};
 use crate::unary::unary_operand;
-use js_machine::{AfterFrame, Next, OperandFrame, Place, State};
-use js_semantics::StepFault;
+use js_machine::{AfterFrame, Key, Next, OperandFrame, Place, State, Use};
+use js_semantics::{Scope, StepFault};
 use js_tree::{BinaryOperator, NodeId, Tree};
 use world_heap::{Loc, Value};
 
@@ -27,6 +27,13 @@ pub enum Remaining<L = Loc> {
         node: NodeId,
         env: L,
         frame: AfterFrame<L>,
+    },
+    /// A property is used, whose object and key are evaluated.
+    Property {
+        base: Value<L>,
+        key: Key,
+        usage: Use,
+        scope: Scope<L>,
     },
     /// The place is written, and then the value given.
     Write {

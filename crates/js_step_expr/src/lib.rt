@@ -8,6 +8,7 @@ mod entering;
 mod frames;
 mod literal;
 mod membership;
+mod properties;
 mod references;
 mod settling;
 mod targets;
@@ -24,6 +25,7 @@ pub use choice::{
 pub use entering::{copy_scope, enter_operand, pass};
 pub use frames::{Remaining, operand};
 pub use literal::{row_literal, row_text, row_this};
+pub use properties::{index_key, index_object, property, used};
 pub use references::{
     row_assign, row_assign_with, row_delete, row_dot, row_index, row_typeof, row_update,
 };
