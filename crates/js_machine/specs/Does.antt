@@ -7,17 +7,21 @@ use Rattle.world_heap.specs.declared.cell.Cell.{Cell}
 use Rattle.world_heap.specs.Views.{HeapView}
 use Rattle.world_heap.specs.declared.limits.HeapFault.TheVariants as full
 use Rattle.world_heap.specs.Growth.{first_full, counts_with, grown}
+use Rattle.world_kind.specs.declared.WorldKind.{WorldKind}
 use Rattle.js_semantics.specs.declared.entry.Delivery.{Delivery}
+use Rattle.js_semantics.specs.declared.entry.Delivery.TheVariants.{Load}
 use Rattle.js_semantics.specs.declared.entry.Entry.{Entry}
 use Rattle.js_semantics.specs.declared.entry.Entry.TheVariants as entry
 use Rattle.js_semantics.specs.declared.entry.Mode.{Mode}
+use Rattle.js_semantics.specs.declared.entry.Mode.TheVariants.{Idle}
 use Rattle.js_semantics.specs.declared.entry.Product.{Product}
 use Rattle.js_semantics.specs.declared.entry.Stop.{Stop}
 use Rattle.js_semantics.specs.declared.entry.Stop.TheVariants.{Cells, Places}
 use Rattle.js_semantics.specs.World.{World, limited}
 use Rattle.js_semantics.specs.Prog.{Prog, Cont, End, Over, Await, Request, Script, Node as NodeRequest, Bind, Member, Native, bind}
 use Rattle.js_semantics.specs.Rows.{row}
-use Rattle.js_semantics.specs.Run.{Arrival, Budget, Trace, Then, run, at_rest}
+use Rattle.js_semantics.specs.Realm.{realm, realm_length}
+use Rattle.js_semantics.specs.Run.{Arrival, Budget, Setting, Trace, Then, run, at_rest}
 use Rattle.js_machine.specs.declared.state.State.{State}
 use Rattle.js_machine.specs.declared.state.Control.{Control}
 use Rattle.js_machine.specs.declared.state.Control.TheVariants as controls
@@ -176,3 +180,31 @@ abbrev pub CountsUnits : ℕ → State → State → Bool → Type 0
 CountsUnits units old new true = (old.heap.counts.units + units ≤ old.heap.limits.units)
     × (new ≡ record old { heap = record old.heap { counts = grown old.heap.counts 0 0 units } })
 CountsUnits units old new false = (old.heap.limits.units < old.heap.counts.units + units) × (new ≡ record old { control = controls.Stop })
+
+-- the start of what a delivery does: a delivery is taken, and then come the products of next and what comes from new
+pub record Receives (nodes : List Node) (d : Arrival) (old new : State) (next : Next) : Type 0 where
+  pub law : (supply : ℕ → ℕ) (ds : List Arrival) → Follows supply 0 new.heap.cells → to_come nodes supply old (d ∷ ds) ≡ Then (entry.Delivery d.fresh d.what) (after (made next) (to_come nodes supply new ds))
+  pub keeps : (supply : ℕ → ℕ) → Follows supply 0 new.heap.cells → Follows supply 0 old.heap.cells
+  pub stays : Stays old.heap new.heap
+
+-- whether a delivery may come: the script is loaded once, between tasks
+abbrev pub awaits_in : Control ℕ → Bool → Delivery → Bool
+awaits_in (controls.Wait Idle) loaded Load = not loaded
+awaits_in other loaded d = false
+
+abbrev pub does_await : State → Delivery → Bool
+does_await s d = awaits_in s.control s.loaded d
+
+-- a new state over a heap, before anything has happened
+abbrev pub IsFresh : WorldKind → HeapView → State → Type 0
+IsFresh kind heap s = (s.heap ≡ heap) × (s.frames.items ≡ []) × (s.control ≡ controls.Wait Idle) × (s.steps ≡ 0) × (s.depth ≡ 0) × (s.kind ≡ kind) × (s.loaded ≡ false)
+
+-- a heap that has the built-in cells of a kind of world alone, the n-th at the n-th location of the supply
+pub record IsRealm (supply : ℕ → ℕ) (kind : WorldKind) (heap : HeapView) : Type 0 where
+  pub cells : heap.cells ≡ realm (limited (realm_length kind + heap.limits.cells) supply) kind
+  pub base : heap.base ≡ realm_length kind
+  pub counts : heap.counts ≡ record { cells = 0; places = 0; units = 0 }
+
+-- the world of a kind with these limits and this script
+abbrev pub setting_of : List Node → WorldKind → HeapView → Setting
+setting_of nodes kind heap = record { kind = kind; limits = heap.limits; tree = nodes }

@@ -1,7 +1,7 @@
 //! What the rows are made of: ending a row, and entering what is below it.
 ghost use Rattle.std.specs.Prelude.{◌≡◌, ◌≤◌, ◌++◌, ℕ, List, IfOk, OnOk, Some, None, option_to_list};
 ghost use Rattle.js_tree.specs.declared.node.Node as kind;
-ghost use Rattle.js_semantics.specs.Prog.{Bind, End, Enter, Member, Native, Node as NodeRequest, Request, give};
+ghost use Rattle.js_semantics.specs.Prog.{Bind, End, Enter, Member, Native, Node as NodeRequest, Request, Script};
 ghost use Rattle.js_machine.specs.Frames.{after_rest, rest};
 ghost use Rattle.js_machine.specs.Does.{Does, IsEntered, StepsDown, under_frame};
 
@@ -138,6 +138,13 @@ impl State {
         ensures many { (nodes : List kind.Node) → IfOk result (λ next. Does nodes 6 (Enter (Native id receiver arguments) (λ o. under_frame nodes frame o)) self.old self.new next) }
     {
         self.go(frame, Control::Native(id, receiver, arguments))
+    }
+
+    /// Enters the script for a step, and leaves its frame.
+    pub fn enter_script(&mut self, root: NodeId) -> Result<Next, StepFault>
+        ensures { (nodes : List kind.Node) → IfOk result (λ next. Does nodes 2 (Enter (Script root) (λ o. rest nodes Frame.Script o)) self.old self.new next) }
+    {
+        self.go(Some(Frame::Script), Control::Script(root))
     }
 
     /// Takes the step of a node whose parts are evaluated by the row around it, or stops.

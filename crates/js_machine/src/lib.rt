@@ -3,6 +3,7 @@
 
 mod basic;
 mod cells;
+mod deliver;
 mod fitting;
 mod frame;
 mod state;

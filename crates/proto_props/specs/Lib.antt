@@ -5,3 +5,8 @@ pub mod Removes
 pub mod Freezes
 pub mod Bared
 pub mod Standing
+pub mod Same
+pub mod Changes
+pub mod Adds
+pub mod Sets
+pub mod Defines

@@ -8,7 +8,7 @@ ghost use Rattle.world_heap.specs.BuiltIns.{plain_object, objects, place_of};
 ghost use Rattle.world_heap.specs.Views.{IsCounted, IsOwned};
 ghost use Rattle.std.specs.Option.{option_and_then};
 ghost use Rattle.world_heap.specs.Bodies.{body_of, HasBody, rebodied, rewritten};
-ghost use Rattle.world_heap.specs.Growth.{Adds, Grows};
+ghost use Rattle.world_heap.specs.Growth.{grown, first_passed, Adds, Grows};
 ghost use Rattle.world_heap.specs.Bounded.{bounds_of};
 ghost use Rattle.world_heap.specs.Starting.{IsNew, empty_heap, with_built_in};
 
@@ -198,6 +198,20 @@ impl Heap {
             units: self.counts.units + units,
         };
         Ok(Loc::of(number))
+    }
+
+    /// The count that would pass its limit with so many places and units more: of places and units the first, or none.
+    /// It takes no memory.
+    pub fn would_pass(&self, places: u64, units: u64) -> Option<Full>
+        ensures { result ≡ first_passed self.now.limits (grown self.now.counts 0 places units) }
+    {
+        if places > self.limits.places - self.counts.places {
+            return Some(Full::Places);
+        }
+        if units > self.limits.units - self.counts.units {
+            return Some(Full::Units);
+        }
+        None
     }
 
     /// Counts places and units, where none would pass its limit. It takes no memory.

@@ -1,11 +1,15 @@
 //! Heaps as their callers use them.
-ghost use Rattle.std.specs.Prelude.{◌≡◌, None};
-ghost use Rattle.world_heap.specs.declared.cell.Cell.TheVariants.{Symbol};
+ghost use Rattle.std.specs.Prelude.{◌≡◌, [], ◌∷◌, Some, None, true, IfOk, nat_eq};
+ghost use Rattle.world_heap.specs.declared.cell.Cell.TheVariants.{Symbol, Buffer};
+ghost use Rattle.world_heap.specs.Maps.{find};
+ghost use Rattle.world_heap.specs.Heaps.{IsCell, Fits};
 
 use crate::keys::ordered;
 use crate::{
-    BuiltIn, Cell, Counts, Full, Heap, HeapFault, Limits, Pool, Property, Table, Value, WorldKind,
+    Body, BuiltIn, Cell, Counts, Full, Heap, HeapFault, Limits, Loc, Pool, Property, Table, Value,
+    WorldKind,
 };
+use sqlite_items::Items;
 use std::alloc::{AllocError, Global};
 use wl_text::Units;
 
@@ -77,6 +81,9 @@ fn each_limit_is_met_exactly(rt: HostRuntime) {
             assert_eq!(rt; heap.base(), 17);
             assert_eq!(rt; added(&mut heap), Told::Done);
             assert_eq!(rt; added(&mut heap), Told::Cells);
+            assert_eq!(rt; heap.would_pass(2, 2), None);
+            assert_eq!(rt; heap.would_pass(3, 3), Some(Full::Places));
+            assert_eq!(rt; heap.would_pass(2, 3), Some(Full::Units));
             assert_eq!(rt; grown(&mut heap, 3, 3), Told::Places);
             assert_eq!(rt; grown(&mut heap, 2, 3), Told::Units);
             assert_eq!(rt; grown(&mut heap, 2, 2), Told::Done);
@@ -220,4 +227,87 @@ fn keys_come_in_order(rt: HostRuntime) {
         Err(_) => assert!(rt; false),
         Ok(heap) => assert_eq!(rt; heap.len(), 17),
     }
+}
+
+// Adds a cell that holds no location.
+#[tactic(auto, using(crate::specs::Maps::map_laws))]
+fn placed(heap: &mut Heap, cell: Cell) -> Result<Loc, AllocError>
+    requires { Fits nat_eq heap.old.cells cell }
+    ensures found { IfOk result (λ loc. find nat_eq heap.new.cells loc ≡ Some cell) }
+    ensures stands { IfOk result (λ loc. IsCell nat_eq heap.new.cells loc) }
+{
+    match heap.add(cell) {
+        Ok(loc) => Ok(loc),
+        Err(_) => Err(AllocError),
+    }
+}
+
+// Puts a symbol in the place of a symbol, and gives that one back.
+fn exchanged(heap: &mut Heap, loc: Loc, text: Option<Units>) -> Cell
+    requires { find nat_eq heap.old.cells loc ≡ Some (Symbol None) }
+    ensures { IsCell nat_eq heap.new.cells loc }
+{
+    heap.replace(loc, Cell::Symbol { text })
+}
+
+// A symbol without a text is read, and one with a text takes its place.
+fn read_and_replaced(alloc: Global) -> Result<bool, AllocError> {
+    let mut heap = of_two_places(alloc)?;
+    let loc = placed(&mut heap, symbol())?;
+    let before = matches!(heap.cell(loc), Cell::Symbol { text: None });
+    let was = exchanged(&mut heap, loc, Units::of_text(alloc, "s").ok());
+    let given = matches!(was, Cell::Symbol { text: None });
+    let after = matches!(heap.cell(loc), Cell::Symbol { text: Some(_) });
+    Ok(before && given && after)
+}
+
+// A buffer of two bytes.
+fn bytes(alloc: Global) -> Result<Cell, AllocError>
+    ensures { IfOk result (λ cell. cell ≡ Buffer (record { proto = None; properties = []; extensible = true }) (1 ∷ 2 ∷ [])) }
+{
+    Ok(Cell::Buffer {
+        body: Body {
+            proto: None,
+            properties: Table::new(alloc),
+            extensible: true,
+        },
+        bytes: Items::from_slice(alloc, &[1, 2])?,
+    })
+}
+
+// The byte of a buffer at a place.
+fn byte(heap: &Heap, loc: Loc, at: usize) -> Option<u8>
+    requires { IsCell nat_eq heap.now.cells loc }
+{
+    match heap.cell(loc) {
+        Cell::Buffer { bytes, .. } => bytes.get(at).copied(),
+        _ => None,
+    }
+}
+
+// Writes a byte.
+fn write(heap: &mut Heap, loc: Loc, at: usize, byte: u8)
+    requires { IsCell nat_eq heap.old.cells loc }
+    ensures { IsCell nat_eq heap.new.cells loc }
+{
+    heap.write_byte(loc, at, byte);
+}
+
+// A byte is written where the buffer has one, and nowhere else.
+fn written_and_read(alloc: Global) -> Result<[Option<u8>; 3], AllocError> {
+    let mut heap = Heap::new(alloc, limits(), WorldKind::Main, Pool::new(alloc))?;
+    let loc = placed(&mut heap, bytes(alloc)?)?;
+    write(&mut heap, loc, 1, 9);
+    write(&mut heap, loc, 2, 8);
+    Ok([
+        byte(&heap, loc, 0),
+        byte(&heap, loc, 1),
+        byte(&heap, loc, 2),
+    ])
+}
+
+#[test]
+fn cells_are_read_and_replaced(rt: HostRuntime) {
+    assert_eq!(rt; read_and_replaced(rt.alloc()), Ok(true));
+    assert_eq!(rt; written_and_read(rt.alloc()), Ok([Some(1), Some(9), None]));
 }

@@ -3,13 +3,14 @@ use Rattle.std.proofs.Common.{◌≡◌, ℕ, List, [], ◌∷◌, ◌++◌, ◌
 use Rattle.std.proofs.lemmas.Bool.Decides.{nat_tests}
 use Rattle.std.specs.Prelude.{IfSome}
 use Rattle.std.specs.Option.{option_map_or}
+use Rattle.app_manifest.specs.App.{first_refusal}
 use Rattle.wl_causes.specs.Reading.{Files}
-use Rattle.worlds_cli.specs.Answer.{answer_to, checks, output, first_refusal, files_read, required, refusal_of, text_or_none, converted, conversion_refusal}
+use Rattle.worlds_cli.specs.Answer.{answer_to, checks, output, required, refusal_of, text_or_none, converted, conversion_refusal}
 use Rattle.worlds_cli.specs.Clauses.{Stops, StopsAt}
 use Rattle.worlds_cli.specs.Command.{Command, convert}
 use Rattle.worlds_cli.specs.Converting.{StopsConverting}
 use Rattle.worlds_cli.specs.declared.status.Status.{Status}
-use Rattle.worlds_cli.specs.declared.status.Status.TheVariants.{Done, Memory, Words, FolderFault, Absent, Json, Shape, Script, SinkFault, Wire, TooLong}
+use Rattle.worlds_cli.specs.declared.status.Status.TheVariants.{Done, Memory, Words, FolderFault, Absent, Json, Shape, Script, Line, SinkFault, Wire, TooLong}
 use Rattle.worlds_cli.specs.declared.words.Conversion.{Conversion}
 use Rattle.worlds_cli.proofs.Stopping.{stops_at}
 
@@ -36,12 +37,12 @@ module _ (conversion : Conversion) (file : List ℕ) where
   pub stops_at_file : (files : Option Files) (A : Type 0) (status : Status)
       → StopsAt (option_map (λ f. conversion_refusal conversion f file) files) file A status
       → Stops files (convert conversion file) A status
-  unfolding checks files_read
+  unfolding checks
   stops_at_file files A status stops =
       stops_at (convert conversion file) (λ f. []) (λ f. []) file (λ f. conversion_refusal conversion f file)
-      (λ f. refl) files A status (accepted files) (0, lit< tt, refl) stops
+      (λ f. refl) files A status (accepted files) refl stops
     where
-      accepted : (files : Option Files) → IfSome files (λ f. first_refusal [] ≡ None)
+      accepted : (files : Option Files) → IfSome files (λ f. first_refusal {F = Status} [] ≡ None)
       accepted None = tt
       accepted (Some f) = refl
 
@@ -65,6 +66,7 @@ module _ (conversion : Conversion) (file : List ℕ) where
     stops_converting files A Words found stops = absurd stops
     stops_converting files A (FolderFault name) found stops = absurd stops
     stops_converting files A (Absent name) found stops = absurd stops
+    stops_converting files A (Line name number) found stops = absurd stops
     stops_converting files A (Script name place kind) found stops = absurd stops
     stops_converting files A SinkFault found stops = absurd stops
     stops_converting files A (TooLong name limit) found stops = absurd stops

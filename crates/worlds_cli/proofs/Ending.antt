@@ -11,7 +11,7 @@ use Rattle.worlds_cli.specs.Command.{Command, command_of}
 use Rattle.worlds_cli.specs.Text.{told}
 use Rattle.worlds_cli.specs.declared.status.ScriptKind.{ScriptKind}
 use Rattle.worlds_cli.specs.declared.status.Status.{Status}
-use Rattle.worlds_cli.specs.declared.status.Status.TheVariants.{Done, Memory, Words, FolderFault, Absent, Json, Shape, Script, SinkFault, Wire, TooLong}
+use Rattle.worlds_cli.specs.declared.status.Status.TheVariants.{Done, Memory, Words, FolderFault, Absent, Json, Shape, Script, Line, SinkFault, Wire, TooLong}
 
 answer_is : (files : Files) (words : List (List ℕ)) (command : Command) → command_of words ≡ Some command
     → answer files words ≡ answer_to files command
@@ -78,6 +78,7 @@ module _ (files : Option Files) (words : List (List ℕ)) (command : Command) (i
   by_writing Words of_writing part = absurd of_writing
   by_writing (FolderFault file) of_writing part = absurd of_writing
   by_writing (Absent file) of_writing part = absurd of_writing
+  by_writing (Line file number) of_writing part = absurd of_writing
   by_writing (Json file) of_writing part = absurd of_writing
   by_writing (Shape file key) of_writing part = absurd of_writing
   by_writing (Wire place kind) of_writing part = absurd of_writing
@@ -100,6 +101,7 @@ module _ (files : Option Files) (words : List (List ℕ)) (command : Command) (i
   ends_told Memory stops taken = nothing (taken ∙ with_more-none before)
   ends_told (FolderFault file) stops taken = (stops.0, reached file stops.1, taken)
   ends_told (Absent file) stops taken = refused (Absent file) stops taken
+  ends_told (Line file number) stops taken = refused (Line file number) stops taken
   ends_told (Json file) stops taken = refused (Json file) stops taken
   ends_told (Shape file key) stops taken = refused (Shape file key) stops taken
   ends_told (Wire place kind) stops taken = refused (Wire place kind) stops taken
@@ -115,6 +117,7 @@ module _ (files : Option Files) (words : List (List ℕ)) (command : Command) (i
   part_told Memory stops front = nothing (nothing_taken before now front)
   part_told (FolderFault file) stops front = inr (stops.0, (file, reached file stops.1, front))
   part_told (Absent file) stops front = part_of (Err (Absent file)) stops front
+  part_told (Line file number) stops front = part_of (Err (Line file number)) stops front
   part_told (Json file) stops front = part_of (Err (Json file)) stops front
   part_told (Shape file key) stops front = part_of (Err (Shape file key)) stops front
   part_told (Wire place kind) stops front = part_of (Err (Wire place kind)) stops front
@@ -155,6 +158,7 @@ ends_telling_words files words folder sink before now status is front of_writing
     ends Words h = absurd h
     ends (FolderFault file) h = absurd h
     ends (Absent file) h = absurd h
+    ends (Line file number) h = absurd h
     ends (Json file) h = absurd h
     ends (Shape file key) h = absurd h
     ends (Wire place kind) h = absurd h
@@ -170,6 +174,7 @@ Ends-told files words folder sink before now SinkFault h = tt
 Ends-told files words folder sink before now Words h = h.1
 Ends-told files words folder sink before now (FolderFault file) h = h.2
 Ends-told files words folder sink before now (Absent file) h = h.1
+Ends-told files words folder sink before now (Line file number) h = h.1
 Ends-told files words folder sink before now (Json file) h = h.1
 Ends-told files words folder sink before now (Shape file key) h = h.1
 Ends-told files words folder sink before now (Wire place kind) h = h.1
@@ -187,6 +192,7 @@ Ends-complete (Some f) words folder sink before now SinkFault h = λ _ s. absurd
 Ends-complete (Some f) words folder sink before now Words h = λ _ _. inl (ap status_of (sym (answer_is_words f words h.0)))
 Ends-complete (Some f) words folder sink before now (FolderFault file) h = λ s _. absurd (s h.0)
 Ends-complete (Some f) words folder sink before now (Absent file) h = λ _ _. inl (ap status_of (sym h.0))
+Ends-complete (Some f) words folder sink before now (Line file number) h = λ _ _. inl (ap status_of (sym h.0))
 Ends-complete (Some f) words folder sink before now (Json file) h = λ _ _. inl (ap status_of (sym h.0))
 Ends-complete (Some f) words folder sink before now (Shape file key) h = λ _ _. inl (ap status_of (sym h.0))
 Ends-complete (Some f) words folder sink before now (Wire place kind) h = λ _ _. inl (ap status_of (sym h.0))

@@ -1,7 +1,12 @@
 -- The answer of a command over the files of a folder: its first refusal, or else its text.
-use Rattle.std.specs.Prelude.{ℕ, ◌<◌, ◌-◌, List, [], ◌∷◌, ◌++◌, length, Bool, not, Option, Some, None, Result, Ok, Err, codes, map, nat_lt, nat_eq, is_some, take_while, option_and_then, if◌then◌else◌}
-use Rattle.std.specs.Cmp.Lexicographic.{pointwise}
+use Rattle.std.specs.Prelude.{◌≡◌, ◌⊎◌, ℕ, ◌<◌, ◌-◌, List, [], ◌∷◌, ◌++◌, length, Bool, true, false, ◌==◌, ◌&&◌, not, Option, Some, None, Result, Ok, Err, codes, map, nat_lt, is_some, option_map, if◌then◌else◌}
 use Rattle.std.specs.Option.{option_map_or}
+use Rattle.app_manifest.specs.App.{Check, Texts, app_checks, app_texts, file_of, first_refusal, manifest_name}
+use Rattle.app_manifest.specs.Clauses.{IsNamed}
+use Rattle.app_manifest.specs.declared.app.AppFault.{AppFault}
+use Rattle.app_manifest.specs.declared.app.AppFault.TheVariants as refusal
+use Rattle.event_script.specs.Script.{script}
+use Rattle.event_script.specs.declared.line.Line.{Line as EventLine}
 use Rattle.js_meaning.specs.Form.{form_of}
 use Rattle.js_meaning.specs.Log.{log_of}
 use Rattle.hex.specs.Hex.{encode_upper}
@@ -14,40 +19,21 @@ use Rattle.wire_input.specs.Input.{parcel_of}
 use Rattle.wire_input.specs.declared.InputFault.{InputFault}
 use Rattle.wire_input.specs.declared.InputFault.TheVariants as input
 use Rattle.wl_causes.specs.Reading.{Files}
+use Rattle.world_heap.specs.Views.{Bounds}
 use Rattle.world_log.specs.Print.{printed_log}
 use Rattle.worlds_cli.specs.Command.{Command, run, convert, command_of}
 use Rattle.worlds_cli.specs.Text.{told}
 use Rattle.worlds_cli.specs.declared.status.Status.{Status}
-use Rattle.worlds_cli.specs.declared.status.Status.TheVariants.{Done, Memory, Words, Absent, Json, Shape, Script, TooLong}
+use Rattle.worlds_cli.specs.declared.status.Status.TheVariants.{Done, Memory, Words, FolderFault, Absent, Json, Shape, Script, Line, TooLong}
 use Rattle.worlds_cli.specs.declared.status.Status.TheVariants as refused
 use Rattle.worlds_cli.specs.declared.words.Conversion.{Conversion}
 use Rattle.worlds_cli.specs.declared.words.Conversion.TheVariants.{Wire, Unwire}
-use Rattle.worlds_cli.specs.declared.status.ScriptKind.TheVariants.{NotBuilt}
+use Rattle.worlds_cli.specs.declared.status.ScriptKind.TheVariants.{NotBuilt, Source}
 
 -- The refusal of a file that must be there: absent, of more bytes than its limit, or refused for what it holds.
 unfoldable pub required : List ℕ → ℕ → (List ℕ → Option Status) → Option (List ℕ) → Option Status
 required file limit contents None = Some (Absent file)
 required file limit contents (Some bytes) = if nat_lt limit (length bytes) then Some (TooLong file limit) else contents bytes
-
--- The refusal of a file that may be absent.
-unfoldable pub optional : List ℕ → ℕ → (List ℕ → Option Status) → Option (List ℕ) → Option Status
-optional file limit contents None = None
-optional file limit contents (Some bytes) = if nat_lt limit (length bytes) then Some (TooLong file limit) else contents bytes
-
-abbrev pub manifest_of : List ℕ → List ℕ
-manifest_of app = app ++ codes "/worlds.json"
-
-abbrev pub main_of : List ℕ → List ℕ
-main_of app = app ++ codes "/main.js"
-
--- A manifest can't be taken yet.
-unfoldable pub manifest_refusal : Files → List ℕ → Option Status
-manifest_refusal files file = optional file 1_048_576 (λ bytes. Some (Script file 0 NotBuilt)) (files file)
-
--- The main script is one of the first form.
-unfoldable pub main_refusal : Files → List ℕ → Option Status
-main_refusal files file = required file 262_144
-    (λ bytes. if is_some (form_of bytes) then None else Some (Script file 0 NotBuilt)) (files file)
 
 -- the refusal of a result
 abbrev pub refusal_of : Result (List ℕ) Status → Option Status
@@ -70,10 +56,58 @@ unwire_line (Err fault) left kind size = Err (refused.Wire (size - left fault) (
 abbrev pub unwired : List ℕ → Result (List ℕ) Status
 unwired bytes = unwire_line (parcel_at 0 bytes) (λ fault. fault.left) (λ fault. fault.kind) (length bytes)
 
--- The event script is empty.
+-- the lines of an event script, or the number of its first wrong line
+abbrev pub line_refusal : List ℕ → Result (List EventLine) ℕ → Option Status
+line_refusal file (Ok lines) = None
+line_refusal file (Err number) = Some (Line file number)
+
+-- An event script has at most 1,048,576 bytes and no wrong line.
 unfoldable pub events_refusal : Files → List ℕ → Option Status
-events_refusal files file = required file 1_048_576
-    (λ bytes. if nat_lt 0 (length bytes) then Some (Script file 0 NotBuilt) else None) (files file)
+events_refusal files file = required file 1_048_576 (λ bytes. line_refusal file (script bytes)) (files file)
+
+-- The refusal of an application, as a status.
+abbrev pub fault_status : AppFault → Status
+fault_status (refusal.Folder file) = FolderFault file
+fault_status (refusal.Absent file) = Absent file
+fault_status (refusal.TooLong file limit) = TooLong file limit
+fault_status (refusal.Json file) = Json file
+fault_status (refusal.Shape file key) = Shape file key
+fault_status (refusal.Script file place kind) = Script file place (Source kind)
+fault_status refusal.Memory = Memory
+
+abbrev pub as_status : Check AppFault → Check Status
+as_status check = (check.0, option_map fault_status check.1)
+
+-- ---- what isn't played yet
+
+abbrev pub are_default : Bounds → Bool
+are_default limits = (limits.steps == 1_000_000) && ((limits.cells == 250_000) && ((limits.places == 1_000_000)
+    && ((limits.units == 16_777_216) && (limits.depth == 1_000))))
+
+-- Windows and limits aren't played.
+unfoldable pub is_plain : Texts → Bool
+is_plain texts = are_default texts.limits && (length texts.windows == 0)
+
+-- a file that can't be played yet where the test says so
+abbrev pub unplayed_if : Bool → List ℕ → Check Status
+unplayed_if true file = (file, Some (Script file 0 NotBuilt))
+unplayed_if false file = (file, None)
+
+-- whether a line has an effect
+abbrev pub has_lines : Result (List EventLine) ℕ → Bool
+has_lines (Ok []) = false
+has_lines (Ok (line ∷ lines)) = true
+has_lines (Err number) = false
+
+-- The files that can't be played yet: the manifest with windows or other limits than the defaults, a main script that
+-- isn't of the first form, an event script with a line that has an effect.
+unfoldable pub unplayed : List ℕ → List ℕ → Texts → Bool → List (Check Status)
+unplayed app events texts eventful = unplayed_if (not (is_plain texts)) (file_of app manifest_name)
+    ∷ unplayed_if (not (is_some (form_of texts.main))) (file_of app texts.name) ∷ unplayed_if eventful events ∷ []
+
+-- whether the event script has a line with an effect
+unfoldable pub is_eventful : Files → List ℕ → Bool
+is_eventful files events = option_map_or (λ bytes. has_lines (script bytes)) (files events) false
 
 -- What a conversion makes of a file's bytes: a text, or the refusal of what they hold.
 unfoldable pub converted : Conversion → List ℕ → List ℕ → Result (List ℕ) Status
@@ -84,28 +118,17 @@ converted Unwire file bytes = unwired bytes
 unfoldable pub conversion_refusal : Conversion → Files → List ℕ → Option Status
 conversion_refusal conversion files file = required file 4_194_304 (λ bytes. refusal_of (converted conversion file bytes)) (files file)
 
--- The files that a command reads, in the order of refusals, each with its refusal: the manifest, the main script, the
--- event script.
-unfoldable pub checks : Files → Command → List (List ℕ × Option Status)
-checks files (run app script) = (manifest_of app, manifest_refusal files (manifest_of app))
-    ∷ (main_of app, main_refusal files (main_of app)) ∷ (script, events_refusal files script) ∷ []
+-- The files that a command reads, in the order of refusals, each with its refusal: those of the application, the event
+-- script, and then once more those that can't be played yet.
+unfoldable pub checks : Files → Command → List (Check Status)
+checks files (run app events) = map as_status (app_checks files app) ++ (events, events_refusal files events)
+    ∷ unplayed app events (app_texts files app) (is_eventful files events)
 checks files (convert conversion file) = (file, conversion_refusal conversion files file) ∷ []
 
--- the names of these files
-unfoldable pub files_read : Command → List (List ℕ)
-files_read (run app script) = manifest_of app ∷ main_of app ∷ script ∷ []
-files_read (convert conversion file) = file ∷ []
-
--- the first refusal of a list
-abbrev pub first_refusal : List (List ℕ × Option Status) → Option Status
-first_refusal [] = None
-first_refusal ((file, Some status) ∷ rest) = Some status
-first_refusal ((file, None) ∷ rest) = first_refusal rest
-
--- the checks that come before a file's first place
-abbrev pub before_file : List ℕ → List (List ℕ × Option Status) → List (List ℕ × Option Status)
-before_file file [] = []
-before_file file ((name, refusal) ∷ rest) = if pointwise nat_eq name file then [] else (name, refusal) ∷ before_file file rest
+-- A file that a command may read: `run` those of the application's folder, and the event script.
+abbrev pub IsRead : Command → List ℕ → Type 0
+IsRead (run app events) file = IsNamed app file ⊎ (file ≡ events)
+IsRead (convert conversion name) file = file ≡ name
 
 -- the text of a result
 abbrev pub text_or_none : Result (List ℕ) Status → List ℕ
@@ -114,8 +137,7 @@ text_or_none (Err status) = []
 
 -- What the command prints where nothing is refused: of `run` the printed log of the main script, of a conversion its text.
 unfoldable pub output : Files → Command → List ℕ
-output files (run app script) =
-    option_map_or (λ statements. printed_log (log_of statements)) (option_and_then form_of (files (main_of app))) []
+output files (run app events) = option_map_or (λ statements. printed_log (log_of statements)) (form_of (app_texts files app).main) []
 output files (convert conversion file) = option_map_or (λ bytes. text_or_none (converted conversion file bytes)) (files file) []
 
 -- the answer of a command

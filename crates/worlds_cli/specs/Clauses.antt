@@ -1,19 +1,19 @@
 -- How a command may end, status by status.
-use Rattle.std.specs.Prelude.{◌≡◌, ℕ, List, [], ◌∷◌, Option, Some, None, Result, Ok, Err, Contains, IfSome, ◌⊎◌}
+use Rattle.std.specs.Prelude.{◌≡◌, ℕ, List, [], ◌∷◌, Option, Some, None, Result, Ok, Err, IfSome, ◌⊎◌}
 use Rattle.wl_causes.specs.Reading.{Files}
 use Rattle.wl_causes.specs.Taking.{with_more, TakesFront}
-use Rattle.worlds_cli.specs.Answer.{answer, answer_to, checks, files_read, first_refusal, before_file, text_of, status_of}
+use Rattle.app_manifest.specs.App.{IsReached as IsReachedIn}
+use Rattle.worlds_cli.specs.Answer.{answer, answer_to, checks, IsRead, text_of, status_of}
 use Rattle.worlds_cli.specs.Command.{Command, command_of}
 use Rattle.worlds_cli.specs.Text.{told}
 use Rattle.worlds_cli.specs.declared.status.Status.{Status}
-use Rattle.worlds_cli.specs.declared.status.Status.TheVariants.{Done, Memory, Words, FolderFault, Absent, Json, Shape, Script, SinkFault, Wire, TooLong}
+use Rattle.worlds_cli.specs.declared.status.Status.TheVariants.{Done, Memory, Words, FolderFault, Absent, Json, Shape, Script, Line, SinkFault, Wire, TooLong}
 
--- A file that a command reads, and none before its first place is refused.
+-- A file that a command reads, and none before it is refused.
 abbrev pub IsReached : Option Files → Command → List ℕ → Type 0
-IsReached files command file = Contains (files_read command) file
-    × IfSome files (λ files. first_refusal (before_file file (checks files command)) ≡ None)
+IsReached files command file = IsRead command file × IfSome files (λ files. IsReachedIn (checks files command) file)
 
--- A file that the words' command reads, and none before its first place is refused.
+-- A file that the words' command reads, and none before it is refused.
 abbrev pub IsReachedBy : Option Files → List (List ℕ) → List ℕ → Type 0
 IsReachedBy files words file = (command : Command) × (command_of words ≡ Some command) × IsReached files command file
 
@@ -37,6 +37,7 @@ Ends files words folder sink Words before now = (command_of words ≡ None) × (
 Ends files words folder sink (FolderFault file) before now =
     folder × IsReachedBy files words file × (now ≡ with_more (told (FolderFault file)) before)
 Ends files words folder sink (Absent file) before now = IsRefused files words (Absent file) before now
+Ends files words folder sink (Line file number) before now = IsRefused files words (Line file number) before now
 Ends files words folder sink (Json file) before now = IsRefused files words (Json file) before now
 Ends files words folder sink (Shape file key) before now = IsRefused files words (Shape file key) before now
 Ends files words folder sink (Wire place kind) before now = IsRefused files words (Wire place kind) before now
@@ -49,6 +50,7 @@ abbrev pub Stops : Option Files → Command → Type 0 → Status → Type 0
 Stops files command folder Memory = Unit {0}
 Stops files command folder (FolderFault file) = folder × IsReached files command file
 Stops files command folder (Absent file) = IfSome files (λ files. answer_to files command ≡ Err (Absent file))
+Stops files command folder (Line file number) = IfSome files (λ files. answer_to files command ≡ Err (Line file number))
 Stops files command folder (Json file) = IfSome files (λ files. answer_to files command ≡ Err (Json file))
 Stops files command folder (Shape file key) = IfSome files (λ files. answer_to files command ≡ Err (Shape file key))
 Stops files command folder (Wire place kind) = IfSome files (λ files. answer_to files command ≡ Err (Wire place kind))
@@ -63,6 +65,7 @@ abbrev pub StopsAt : Option (Option Status) → List ℕ → Type 0 → Status �
 StopsAt refusal file folder Memory = Unit {0}
 StopsAt refusal file folder (FolderFault name) = folder × (name ≡ file)
 StopsAt refusal file folder (Absent name) = IfSome refusal (λ first. first ≡ Some (Absent name))
+StopsAt refusal file folder (Line name number) = IfSome refusal (λ first. first ≡ Some (Line name number))
 StopsAt refusal file folder (Json name) = IfSome refusal (λ first. first ≡ Some (Json name))
 StopsAt refusal file folder (Shape name key) = IfSome refusal (λ first. first ≡ Some (Shape name key))
 StopsAt refusal file folder (Wire place kind) = IfSome refusal (λ first. first ≡ Some (Wire place kind))
@@ -80,6 +83,7 @@ IsOfWriting sink Done = ⊥
 IsOfWriting sink Words = ⊥
 IsOfWriting sink (FolderFault file) = ⊥
 IsOfWriting sink (Absent file) = ⊥
+IsOfWriting sink (Line file number) = ⊥
 IsOfWriting sink (Json file) = ⊥
 IsOfWriting sink (Shape file key) = ⊥
 IsOfWriting sink (Wire place kind) = ⊥
@@ -94,6 +98,7 @@ TellsAnswer SinkFault before now = Unit {0}
 TellsAnswer Words before now = now ≡ with_more (told Words) before
 TellsAnswer (FolderFault file) before now = now ≡ with_more (told (FolderFault file)) before
 TellsAnswer (Absent file) before now = now ≡ with_more (told (Absent file)) before
+TellsAnswer (Line file number) before now = now ≡ with_more (told (Line file number)) before
 TellsAnswer (Json file) before now = now ≡ with_more (told (Json file)) before
 TellsAnswer (Shape file key) before now = now ≡ with_more (told (Shape file key)) before
 TellsAnswer (Wire place kind) before now = now ≡ with_more (told (Wire place kind)) before

@@ -1,8 +1,9 @@
 -- How reading one file may end.
-use Rattle.std.specs.Prelude.{◌≡◌, ℕ, ◌<◌, List, length, Option, Some, IfSome, ◌⊎◌}
+use Rattle.std.specs.Prelude.{◌≡◌, ℕ, ◌<◌, List, length, Option, Some, Result, Err, IfSome, ◌⊎◌}
+use Rattle.event_script.specs.declared.line.Line.{Line as EventLine}
 use Rattle.wl_causes.specs.Reading.{Files}
 use Rattle.worlds_cli.specs.declared.status.Status.{Status}
-use Rattle.worlds_cli.specs.declared.status.Status.TheVariants.{Done, Memory, Words, FolderFault, Absent, Json, Shape, Script, SinkFault, Wire, TooLong}
+use Rattle.worlds_cli.specs.declared.status.Status.TheVariants.{Done, Memory, Words, FolderFault, Absent, Json, Shape, Script, Line, SinkFault, Wire, TooLong}
 
 -- a file of more bytes than its limit
 abbrev pub IsLonger : Option (List ℕ) → ℕ → Type 0
@@ -16,6 +17,7 @@ StopsReading files name limit folder (TooLong file most) = (file ≡ name) × (m
 StopsReading files name limit folder Done = ⊥
 StopsReading files name limit folder Words = ⊥
 StopsReading files name limit folder (Absent file) = ⊥
+StopsReading files name limit folder (Line file number) = ⊥
 StopsReading files name limit folder (Json file) = ⊥
 StopsReading files name limit folder (Shape file key) = ⊥
 StopsReading files name limit folder (Wire place kind) = ⊥
@@ -25,3 +27,33 @@ StopsReading files name limit folder SinkFault = ⊥
 -- This status, or want of memory.
 abbrev pub IsOrMemory : Status → Status → Type 0
 IsOrMemory result status = (result ≡ status) ⊎ (result ≡ Memory)
+
+-- The file has a wrong line, the first such, or memory ran out.
+abbrev pub IsWrongLine : Result (List EventLine) ℕ → List ℕ → Status → Type 0
+IsWrongLine read name (Line file number) = (file ≡ name) × (read ≡ Err number)
+IsWrongLine read name Memory = Unit {0}
+IsWrongLine read name Done = ⊥
+IsWrongLine read name Words = ⊥
+IsWrongLine read name (FolderFault file) = ⊥
+IsWrongLine read name (Absent file) = ⊥
+IsWrongLine read name (Json file) = ⊥
+IsWrongLine read name (Shape file key) = ⊥
+IsWrongLine read name (Wire place kind) = ⊥
+IsWrongLine read name (Script file place kind) = ⊥
+IsWrongLine read name SinkFault = ⊥
+IsWrongLine read name (TooLong file limit) = ⊥
+
+-- A file can't be played yet, the first such, or memory ran out.
+abbrev pub IsUnplayed : Option Status → Status → Type 0
+IsUnplayed told (Script file place kind) = told ≡ Some (Script file place kind)
+IsUnplayed told Memory = Unit {0}
+IsUnplayed told (Line file number) = ⊥
+IsUnplayed told Done = ⊥
+IsUnplayed told Words = ⊥
+IsUnplayed told (FolderFault file) = ⊥
+IsUnplayed told (Absent file) = ⊥
+IsUnplayed told (Json file) = ⊥
+IsUnplayed told (Shape file key) = ⊥
+IsUnplayed told (Wire place kind) = ⊥
+IsUnplayed told SinkFault = ⊥
+IsUnplayed told (TooLong file limit) = ⊥

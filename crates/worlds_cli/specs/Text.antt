@@ -1,11 +1,12 @@
 -- What is told of a status: its number, and the line of a refusal.
 use Rattle.std.specs.Prelude.{ℕ, List, [], ◌∷◌, ◌++◌, codes, decimal}
+use Rattle.js_source.specs.Kinds.{word_of}
 use Rattle.worlds_cli.specs.declared.status.ScriptKind.{ScriptKind}
-use Rattle.worlds_cli.specs.declared.status.ScriptKind.TheVariants.{NotBuilt}
+use Rattle.worlds_cli.specs.declared.status.ScriptKind.TheVariants.{NotBuilt, Source}
 use Rattle.v8_wire.specs.declared.kind.WireKind.{WireKind}
 use Rattle.v8_wire.specs.declared.kind.WireKind.TheVariants as wire
 use Rattle.worlds_cli.specs.declared.status.Status.{Status}
-use Rattle.worlds_cli.specs.declared.status.Status.TheVariants.{Done, Memory, Words, FolderFault, Absent, Json, Shape, Script, SinkFault, Wire, TooLong}
+use Rattle.worlds_cli.specs.declared.status.Status.TheVariants.{Done, Memory, Words, FolderFault, Absent, Json, Shape, Script, Line, SinkFault, Wire, TooLong}
 
 -- the number that the process ends with
 abbrev pub number_of : Status → ℕ
@@ -17,12 +18,14 @@ number_of (Absent file) = 4
 number_of (Json file) = 5
 number_of (Shape file key) = 5
 number_of (Script file place kind) = 6
+number_of (Line file number) = 7
 number_of SinkFault = 8
 number_of (Wire place kind) = 9
 number_of (TooLong file limit) = 11
 
 abbrev pub kind_word : ScriptKind → List ℕ
 kind_word NotBuilt = codes "notbuilt"
+kind_word (Source kind) = word_of kind
 
 -- the word of what is wrong with the bytes of a message
 unfoldable pub wire_word : WireKind → List ℕ
@@ -52,6 +55,7 @@ told (Absent file) = codes "! absent " ++ (file ++ 10 ∷ [])
 told (Script file place kind) = codes "! script " ++ (file ++ (32 ∷ decimal place ++ (32 ∷ kind_word kind ++ 10 ∷ [])))
 told (Json file) = codes "! json " ++ (file ++ 10 ∷ [])
 told (Shape file key) = codes "! shape " ++ (file ++ (32 ∷ key ++ 10 ∷ []))
+told (Line file number) = codes "! line " ++ (file ++ (32 ∷ decimal number ++ 10 ∷ []))
 told SinkFault = []
 told (Wire place kind) = codes "! wire " ++ (decimal place ++ (32 ∷ wire_word kind ++ 10 ∷ []))
 told (TooLong file limit) = codes "! long " ++ (file ++ (32 ∷ decimal limit ++ 10 ∷ []))

@@ -7,7 +7,7 @@ ghost use Rattle.worlds_cli.specs.Clauses.{Ends, IsReachedBy, TakesPart, TellsAn
 ghost use Rattle.worlds_cli.specs.Command.{Command, command_of, spelled, run, convert};
 ghost use Rattle.worlds_cli.specs.Text.{told};
 ghost use Rattle.worlds_cli.specs.declared.status.ScriptKind.{ScriptKind};
-ghost use Rattle.worlds_cli.specs.declared.status.Status.TheVariants.{Done, Memory, Words, FolderFault, Absent, Json, Shape, Script, SinkFault, Wire, TooLong};
+ghost use Rattle.worlds_cli.specs.declared.status.Status.TheVariants.{Done, Memory, Words, FolderFault, Absent, Json, Shape, Script, Line, SinkFault, Wire, TooLong};
 ghost use Rattle.v8_wire.specs.declared.kind.WireKind.{WireKind};
 
 use crate::converting::read_converted;
@@ -46,10 +46,12 @@ pub fn worlds<F: Folder, K: Sink>(
         → IfSome (F.files folder.old) (λ files. answer files (spelled words.now) ≡ Err (Absent file)) }
     ensures script { (file : List ℕ) (place : ℕ) (kind : ScriptKind) → result ≡ Script file place kind
         → IfSome (F.files folder.old) (λ files. answer files (spelled words.now) ≡ Err (Script file place kind)) }
+    ensures line { (file : List ℕ) (number : ℕ) → result ≡ Line file number
+        → IfSome (F.files folder.old) (λ files. answer files (spelled words.now) ≡ Err (Line file number)) }
     ensures long { (file : List ℕ) (limit : ℕ) → result ≡ TooLong file limit
         → IfSome (F.files folder.old) (λ files. answer files (spelled words.now) ≡ Err (TooLong file limit)) }
 
-    // The folder or the sink failed in this call; no file before the first place of the named one is refused.
+    // The folder or the sink failed in this call; no file before the named one is refused.
     ensures folder { (file : List ℕ) → result ≡ FolderFault file → Rose (F.faults folder.old) (F.faults folder.new)
         × IsReachedBy (F.files folder.old) (spelled words.now) file }
     ensures sink { result ≡ SinkFault → Rose (K.faults sink.old) (K.faults sink.new) }

@@ -3,6 +3,7 @@ ghost use Rattle.std.specs.Prelude.{◌≡◌};
 ghost use Rattle.worlds_cli.specs.Text.{number_of};
 ghost use Rattle.worlds_cli.specs.declared.status.Status.TheVariants.{Memory};
 
+use js_source::SourceKind;
 use sqlite_items::Items;
 use std::alloc::{AllocError, AllocFailed};
 use v8_wire::WireKind;
@@ -12,6 +13,8 @@ use v8_wire::WireKind;
 pub enum ScriptKind {
     /// The script, manifest or event script is one that can't be played yet.
     NotBuilt,
+    /// The text is no script, for what stands at the place.
+    Source(SourceKind),
 }
 
 /// How a command ends. A file is named as it is told to the user.
@@ -46,6 +49,11 @@ pub enum Status {
         place: u32,
         kind: ScriptKind,
     },
+    /// A line of an event script is of no form, the first such; lines count from 1.
+    Line {
+        file: Items<u8>,
+        number: u32,
+    },
     /// The output couldn't be written.
     SinkFault,
     /// Bytes aren't those of a message, at this place and for this reason.
@@ -73,6 +81,7 @@ impl Status {
             Status::Absent { .. } => 4,
             Status::Json { .. } | Status::Shape { .. } => 5,
             Status::Script { .. } => 6,
+            Status::Line { .. } => 7,
             Status::SinkFault => 8,
             Status::Wire { .. } => 9,
             Status::TooLong { .. } => 11,

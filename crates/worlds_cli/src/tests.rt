@@ -23,7 +23,7 @@ const EMPTY: Row = Row {
     text: "main << load\nmain > rest 0\n",
 };
 
-const ROWS: [Row; 18] = [
+const ROWS: [Row; 37] = [
     EMPTY,
     Row {
         main: Some("console.log(\"hi\", 7);"),
@@ -41,31 +41,56 @@ const ROWS: [Row; 18] = [
         ..EMPTY
     },
     Row {
+        manifest: Some("{}"),
+        ..EMPTY
+    },
+    Row {
+        manifest: Some("{\"windows\":[],\"limits\":{\"steps\":1000000,\"depth\":1000}}"),
+        ..EMPTY
+    },
+    Row {
+        manifest: Some("{\"main\":\"main.js\"}"),
+        events: Some("# nothing\n\n#"),
+        ..EMPTY
+    },
+    Row {
         main: Some("let x = 1.5;"),
         status: 6,
-        text: "! script a/main.js 0 notbuilt\n",
+        text: "! script a/main.js 8 number\n",
         ..EMPTY
     },
     Row {
         main: Some("console.log(\"a\""),
         status: 6,
-        text: "! script a/main.js 0 notbuilt\n",
-        ..EMPTY
-    },
-    Row {
-        main: Some("console.log();"),
-        status: 6,
-        text: "! script a/main.js 0 notbuilt\n",
+        text: "! script a/main.js 15 token\n",
         ..EMPTY
     },
     Row {
         main: Some("console.log(07);"),
         status: 6,
-        text: "! script a/main.js 0 notbuilt\n",
+        text: "! script a/main.js 12 number\n",
         ..EMPTY
     },
     Row {
         main: Some("console.log(9007199254740992);"),
+        status: 6,
+        text: "! script a/main.js 12 number\n",
+        ..EMPTY
+    },
+    Row {
+        main: Some("let a; let a;"),
+        status: 6,
+        text: "! script a/main.js 11 twice\n",
+        ..EMPTY
+    },
+    Row {
+        main: Some("return 1;"),
+        status: 6,
+        text: "! script a/main.js 0 return\n",
+        ..EMPTY
+    },
+    Row {
+        main: Some("console.log();"),
         status: 6,
         text: "! script a/main.js 0 notbuilt\n",
         ..EMPTY
@@ -89,10 +114,16 @@ const ROWS: [Row; 18] = [
         ..EMPTY
     },
     Row {
-        main: None,
         manifest: Some("{}"),
-        status: 6,
-        text: "! script a/worlds.json 0 notbuilt\n",
+        main: None,
+        status: 4,
+        text: "! absent a/main.js\n",
+        ..EMPTY
+    },
+    Row {
+        manifest: Some("{\"main\":\"x/y.js\"}"),
+        status: 4,
+        text: "! absent a/x/y.js\n",
         ..EMPTY
     },
     Row {
@@ -102,22 +133,47 @@ const ROWS: [Row; 18] = [
         ..EMPTY
     },
     Row {
-        events: Some("step main"),
-        status: 6,
-        text: "! script e 0 notbuilt\n",
+        manifest: Some("{"),
+        main: None,
+        status: 5,
+        text: "! json a/worlds.json\n",
         ..EMPTY
     },
     Row {
-        events: Some("# nothing"),
-        status: 6,
-        text: "! script e 0 notbuilt\n",
+        manifest: Some("{\"windows\":[{}]}"),
+        main: None,
+        status: 5,
+        text: "! shape a/worlds.json windows[0].page\n",
         ..EMPTY
     },
     Row {
-        main: Some("x"),
-        events: None,
-        status: 6,
-        text: "! script a/main.js 0 notbuilt\n",
+        manifest: Some("{\"limits\":{\"steps\":0}}"),
+        status: 5,
+        text: "! shape a/worlds.json limits.steps\n",
+        ..EMPTY
+    },
+    Row {
+        manifest: Some("{\"title\":1}"),
+        status: 5,
+        text: "! shape a/worlds.json title\n",
+        ..EMPTY
+    },
+    Row {
+        manifest: Some("[]"),
+        status: 5,
+        text: "! shape a/worlds.json .\n",
+        ..EMPTY
+    },
+    Row {
+        events: Some("step 0"),
+        status: 7,
+        text: "! line e 1\n",
+        ..EMPTY
+    },
+    Row {
+        events: Some("# a\n\nstep 1\nstep 01"),
+        status: 7,
+        text: "! line e 4\n",
         ..EMPTY
     },
     Row {
@@ -125,6 +181,67 @@ const ROWS: [Row; 18] = [
         events: None,
         status: 4,
         text: "! absent a/main.js\n",
+        ..EMPTY
+    },
+    Row {
+        main: Some("x"),
+        events: None,
+        status: 6,
+        text: "! script a/main.js 1 token\n",
+        ..EMPTY
+    },
+    Row {
+        main: Some("f();"),
+        events: None,
+        status: 4,
+        text: "! absent e\n",
+        ..EMPTY
+    },
+    Row {
+        main: Some("f();"),
+        events: Some("step 0"),
+        status: 7,
+        text: "! line e 1\n",
+        ..EMPTY
+    },
+    Row {
+        manifest: Some("{\"windows\":[{\"page\":\"main.js\"}]}"),
+        events: Some("step 0"),
+        status: 7,
+        text: "! line e 1\n",
+        ..EMPTY
+    },
+    Row {
+        manifest: Some("{\"windows\":[{\"page\":\"main.js\"}]}"),
+        status: 6,
+        text: "! script a/worlds.json 0 notbuilt\n",
+        ..EMPTY
+    },
+    Row {
+        manifest: Some("{\"limits\":{\"steps\":7}}"),
+        status: 6,
+        text: "! script a/worlds.json 0 notbuilt\n",
+        ..EMPTY
+    },
+    Row {
+        manifest: Some("{\"limits\":{\"depth\":999}}"),
+        main: Some("f();"),
+        events: Some("step main"),
+        status: 6,
+        text: "! script a/worlds.json 0 notbuilt\n",
+        ..EMPTY
+    },
+    Row {
+        main: Some("f();"),
+        events: Some("step main"),
+        status: 6,
+        text: "! script a/main.js 0 notbuilt\n",
+        ..EMPTY
+    },
+    Row {
+        events: Some("step main"),
+        status: 6,
+        text: "! script e 0 notbuilt\n",
         ..EMPTY
     },
 ];

@@ -83,6 +83,11 @@ fn told_line(alloc: Global, status: &Status) -> Result<Vec<u8>, AllocError>
             let rest = format!(in alloc; " {place} {word}\n")?;
             push_file(&mut line, b"! script ", file, rest.as_bytes())?;
         }
+        Status::Line { file, number } => {
+            let number = *number;
+            let rest = format!(in alloc; " {number}\n")?;
+            push_file(&mut line, b"! line ", file, rest.as_bytes())?;
+        }
         Status::Json { file } => push_file(&mut line, b"! json ", file, b"\n")?,
         Status::Shape { file, key } => push_shape(&mut line, file, key)?,
         Status::Wire { place, kind } => {
@@ -131,6 +136,7 @@ fn word_of(kind: ScriptKind) -> &'static str
 {
     match kind {
         ScriptKind::NotBuilt => "notbuilt",
+        ScriptKind::Source(kind) => kind.word(),
     }
 }
 

@@ -1,13 +1,11 @@
-use Rattle.std.proofs.Common.{◌≡◌, ◌∙◌, ◌+◌, ◌∷◌, [], ◌++◌, Some, sym, subst, ap, refl, nat_eq, length, List, ℕ, arith, length-append, true, false, if◌then◌else◌, IsSomeAnd}
+use Rattle.std.proofs.Common.{◌≡◌, ◌∙◌, ◌+◌, ◌∷◌, [], ◌++◌, Some, sym, subst, ap, nat_eq, length, List, ℕ, arith, length-append, true, false, if◌then◌else◌}
 use Rattle.std.proofs.lemmas.Bool.Decides.{nat_tests}
 use Rattle.world_heap.specs.declared.cell.Cell.{Cell}
 use Rattle.world_heap.specs.Maps.{keys, find, put, without, stands, find-push}
 use Rattle.world_heap.specs.Shelf.{values_of}
-use Rattle.world_heap.specs.Over.{OptionOver}
-use Rattle.world_heap.specs.Heaps.{is_env, IsNoEnv, Fits, IsWell}
+use Rattle.world_heap.specs.Heaps.{IsNoEnv, Fits, IsWell}
 use Rattle.world_heap.specs.Views.{HeapView, IsPooled, IsOwned}
 use Rattle.world_heap.specs.Bounded.{bounds_of}
-use Rattle.world_heap.specs.BuiltIns.{plain_object}
 use Rattle.world_heap.specs.Starting.{with_built_in}
 use Rattle.world_heap.proofs.Wells.{well_push, push_kept, no_env_kept}
 use Rattle.world_heap.proofs.Pooling.{pooled_well, pooled_put, owned_put, values-put, without-put, apart_own}

@@ -1,4 +1,4 @@
-use Rattle.std.proofs.Common.{◌≡◌, Some, sym, subst, refl, false, IsSomeAnd}
+use Rattle.std.proofs.Common.{◌≡◌, sym, subst, refl, false, IsSomeAnd}
 use Rattle.world_heap.specs.Heaps.{is_env}
 use Rattle.world_heap.proofs.heap.Heap.add_object.Goals as goal
 

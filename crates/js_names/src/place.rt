@@ -1,0 +1,105 @@
+//! Where a name is bound (ECMA-262, 9.1.1.1 and 9.1.2.1).
+ghost use Rattle.std.specs.Prelude.{◌≡◌, ℕ, Some, None, MatchOption, option_map, nat_eq};
+ghost use Rattle.world_heap.specs.Maps.{find};
+ghost use Rattle.world_heap.specs.Heaps.{IsWell};
+ghost use Rattle.js_semantics.specs.World.{World, over};
+ghost use Rattle.js_semantics.specs.Environments.{binding_of};
+ghost use Rattle.js_names.specs.Places.{place_in, seen_in, place_under, binding_under, placed};
+
+use wl_text::Units;
+use world_heap::{Binding, Cell, Heap, Loc};
+
+/// What is seen of a name in a cell: its place among the bindings, the environment around, or nothing.
+#[derive(Drop)]
+pub enum Seen<L = Loc> {
+    Here(usize),
+    Outer(L),
+    Nowhere,
+}
+
+// The place of a name among bindings.
+fn place_among(bindings: &[Binding], name: &Units) -> Option<usize>
+    ensures { result ≡ place_in bindings.now name.now }
+{
+    bindings.iter().position(|binding| binding.name == *name)
+}
+
+// What is seen of a name in a cell.
+fn look(cell: &Cell, name: &Units) -> Seen
+    ensures { result ≡ seen_in cell.now name.now }
+{
+    match cell {
+        Cell::Env { outer, bindings } => match place_among(bindings.as_slice(), name) {
+            Some(place) => Seen::Here(place),
+            None => match outer {
+                Some(outer) => Seen::Outer(*outer),
+                None => Seen::Nowhere,
+            },
+        },
+        _ => Seen::Nowhere,
+    }
+}
+
+// The place of a name in an environment.
+pub fn place_at(heap: &Heap, env: Loc, name: &Units) -> Option<usize>
+    ensures is { result ≡ place_under (find nat_eq heap.now.cells env) name.now }
+    ensures well { IsWell nat_eq heap.now.cells }
+{
+    match heap.get(env) {
+        Some(cell) => match look(cell, name) {
+            Seen::Here(place) => Some(place),
+            _ => None,
+        },
+        None => None,
+    }
+}
+
+// The innermost environment that binds a name, and the name's place there.
+fn place_of(heap: &Heap, env: Loc, name: &Units) -> Option<(Loc, usize)>
+    ensures { (w : World ℕ) → placed (find nat_eq heap.now.cells) result ≡ binding_of env name.now (over heap.now w) }
+{
+    let mut at = env;
+    let mut left = heap.len();
+    'environments: while left > 0 {
+        left -= 1;
+        match heap.get(at) {
+            Some(cell) => match look(cell, name) {
+                Seen::Here(place) => return Some((at, place)),
+                Seen::Outer(outer) => at = outer,
+                Seen::Nowhere => return None,
+            },
+            None => return None,
+        }
+    }
+    None
+}
+
+// The binding at a place of a cell.
+fn binding_in(cell: &Cell, place: usize) -> Option<&Binding>
+    ensures { MatchOption result (binding_under (Some cell.now) place ≡ None) (λ binding. binding_under (Some cell.now) place ≡ Some binding.now) }
+{
+    match cell {
+        Cell::Env { bindings, .. } => bindings.get(place),
+        _ => None,
+    }
+}
+
+/// The innermost binding of a name, with its environment; nothing, where no environment from this one on binds it
+/// (ECMA-262, 9.1.2.1: GetIdentifierReference).
+///
+/// It takes no memory. The cost is linear in the bindings of the environments that are searched.
+pub fn binding_of<'a>(heap: &'a Heap, env: Loc, name: &Units) -> Option<(Loc, &'a Binding)>
+    ensures { (w : World ℕ) → option_map (λ found. (found.0, found.1.now)) result ≡ binding_of env name.now (over heap.now w) }
+{
+    let (at, place) = match place_of(heap, env, name) {
+        Some(found) => found,
+        None => return None,
+    };
+    match heap.get(at) {
+        Some(cell) => match binding_in(cell, place) {
+            Some(binding) => Some((at, binding)),
+            None => None,
+        },
+        None => None,
+    }
+}
