@@ -1,5 +1,5 @@
 -- Rows that turn on what a node is as a reference.
-use Rattle.std.proofs.Common.{◌≡◌, ℕ, List, Option, Some, None, Bool, Result, Ok, Err, false, refl, sym, ap, arith}
+use Rattle.std.proofs.Common.{◌≡◌, ℕ, List, Option, Some, Bool, Result, Ok, Err, false, refl, sym, ap, arith}
 use Rattle.std.specs.Prelude.{slice_get}
 use Rattle.world_heap.specs.declared.value.Value.TheVariants.{Undefined}
 use Rattle.js_tree.specs.declared.node.NodeId.{NodeId}

@@ -1,6 +1,5 @@
 -- Nodes that may be written, and the rows that turn on them.
-use Rattle.std.specs.Prelude.{ℕ, List, Option, Some, None, Bool, true, slice_get}
-use Rattle.world_heap.specs.declared.value.Value.{Value}
+use Rattle.std.specs.Prelude.{ℕ, List, Option, Some, Bool, true}
 use Rattle.world_heap.specs.declared.value.Value.TheVariants.{Bool as Boolean}
 use Rattle.js_tree.specs.declared.node.NodeId.{NodeId}
 use Rattle.js_tree.specs.declared.node.BinaryOperator.{BinaryOperator}

@@ -3,7 +3,7 @@ use Rattle.std.specs.Prelude.{slice_get}
 use Rattle.js_tree.specs.declared.node.Node.{Node}
 use Rattle.js_semantics.specs.Expressions.{row_assign}
 use Rattle.js_machine.proofs.Doing.{does_read_ok}
-use Rattle.js_step_expr.specs.Targets.{assign_at, target_in}
+use Rattle.js_step_expr.specs.Targets.{assign_at}
 use Rattle.js_step_expr.proofs.Written.{assign_is}
 use Rattle.js_step_expr.proofs.references.row_assign.Goals as goal
 

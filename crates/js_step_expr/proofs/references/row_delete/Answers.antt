@@ -3,7 +3,7 @@ use Rattle.std.specs.Prelude.{slice_get}
 use Rattle.js_tree.specs.declared.node.Node.{Node}
 use Rattle.js_semantics.specs.Expressions.{row_delete}
 use Rattle.js_machine.proofs.Doing.{does_read_ok}
-use Rattle.js_step_expr.specs.Targets.{delete_at, target_in}
+use Rattle.js_step_expr.specs.Targets.{delete_at}
 use Rattle.js_step_expr.proofs.Written.{delete_is}
 use Rattle.js_step_expr.proofs.references.row_delete.Goals as goal
 
