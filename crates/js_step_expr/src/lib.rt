@@ -1,4 +1,7 @@
 //! The rows of operators and operands: what is evaluated, in which order, and what is done with the values.
+//!
+//! Each function that takes a state answers `Memory` where memory runs out, and `Dangling` where it meets a location that
+//! stands nowhere, to which no script comes.
 #![tactic(auto)]
 
 mod after;
@@ -27,7 +30,7 @@ pub use frames::{Remaining, operand};
 pub use literal::{row_literal, row_text, row_this};
 pub use properties::{index_key, index_object, property, used};
 pub use references::{
-    row_assign, row_assign_with, row_delete, row_dot, row_index, row_typeof, row_update,
+    row_assign, row_assign_with, row_delete, row_dot, row_index, row_name, row_typeof, row_update,
 };
 pub use settling::{finish, make_text, settle};
 pub use targets::Target;

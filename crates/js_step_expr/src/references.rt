@@ -1,8 +1,8 @@
-//! Rows of references (ECMA-262, 13.3, 13.5.1 and 13.15): properties, `delete` and assignments enter their parts.
-ghost use Rattle.std.specs.Prelude.{List, IfOk, map, slice_get};
+//! Rows of references (ECMA-262, 13.1, 13.3, 13.5.1 and 13.15): properties, `delete` and assignments enter their parts.
+ghost use Rattle.std.specs.Prelude.{◌≡◌, List, IfOk, map, slice_get};
 ghost use Rattle.js_tree.specs.declared.node.Node as kind;
 ghost use Rattle.js_semantics.specs.Prog.{eval, step};
-ghost use Rattle.js_semantics.specs.Expressions.{row_assign, row_assign_with, row_delete, row_dot, row_index, row_typeof, row_update};
+ghost use Rattle.js_semantics.specs.Expressions.{row_assign, row_assign_with, row_delete, row_dot, row_index, row_name, row_typeof, row_update};
 ghost use Rattle.js_machine.specs.Parts.{name_of};
 ghost use Rattle.js_machine.specs.Does.{Does};
 ghost use Rattle.js_machine.specs.Frames.{operand_rest};
@@ -48,6 +48,21 @@ fn enter_indexed(
     let inner = copy_scope(state.alloc, &scope)?;
     let frame = PropertyFrame::IndexObject { key, usage, scope };
     state.enter(Frame::OnValue(ValueFrame::Property(frame)), object, inner)
+}
+
+/// A name (ECMA-262, 13.1.3): its value is to be read, and is that of the row. The node is that of the row, which has the
+/// name.
+#[tactic(auto, unfolding(js_semantics::specs::Expressions::row_name))]
+pub fn row_name(node: NodeId, scope: Scope) -> Remaining
+    ensures { (nodes : List kind.Node) → left_of nodes result ≡ row_name (name_of (slice_get nodes node.0)) scope }
+{
+    let env = scope.env;
+    discard(scope);
+    Remaining::Read {
+        node,
+        env,
+        frame: AfterFrame::Give,
+    }
 }
 
 /// `object.name` (ECMA-262, 13.3.2): enters the object. The node is that of the row, which has the name.
