@@ -1,0 +1,5 @@
+use Rattle.js_step_expr.proofs.Passing.{passed}
+use Rattle.js_step_expr.proofs.entering.pass.Goals as goal
+
+pub returns : goal.returns
+returns c nodes = rw passed (c.jump.ensures.many nodes)

@@ -1,0 +1,9 @@
+use Rattle.js_machine.proofs.Doing.{moves_step}
+use Rattle.js_step_expr.proofs.Written.{not_stepped}
+use Rattle.js_step_expr.proofs.references.step_name.Goals as goal
+
+pub returns-then-not-step_down : goal.returns-then-not-step_down
+returns-then-not-step_down c nodes = rw c.stopped.ensures (not_stepped nodes _ _ _ (rw c.if-not-step_down.true at c.step_down.ensures))
+
+pub returns : goal.returns
+returns c nodes = moves_step nodes _ _ _ (rw c.if-not-step_down.false at c.step_down.ensures)

@@ -1,0 +1,33 @@
+//! What follows a reading or the call of a setter, where no more code is called.
+ghost use Rattle.std.specs.Prelude.{List, IfOk};
+ghost use Rattle.js_tree.specs.declared.node.Node as kind;
+ghost use Rattle.js_machine.specs.Does.{Does};
+ghost use Rattle.js_machine.specs.Frames.{after_rest};
+
+use crate::entering::discard;
+use crate::types::give_type;
+use js_machine::{AfterFrame, Next, State};
+use js_semantics::{Outcome, StepFault};
+use world_heap::Value;
+
+/// The value that was read is that of the row.
+pub fn after_give(state: &mut State, value: Value) -> Result<Next, StepFault>
+    ensures { (nodes : List kind.Node) → IfOk result (λ next. Does nodes 4 (after_rest nodes AfterFrame.Give value) state.old state.new next) }
+{
+    state.give(Outcome::Normal(value))
+}
+
+/// This value is that of the row; what the setter gave is let go.
+pub fn after_result(state: &mut State, kept: Value, value: Value) -> Result<Next, StepFault>
+    ensures { (nodes : List kind.Node) → IfOk result (λ next. Does nodes 4 (after_rest nodes (AfterFrame.Result kept) value) state.old state.new next) }
+{
+    discard(value);
+    state.give(Outcome::Normal(kept))
+}
+
+/// `typeof` with the value that was read of a name.
+pub fn after_typeof(state: &mut State, value: Value) -> Result<Next, StepFault>
+    ensures { (nodes : List kind.Node) → IfOk result (λ next. Does nodes 4 (after_rest nodes AfterFrame.Typeof value) state.old state.new next) }
+{
+    give_type(state, value)
+}

@@ -1,0 +1,140 @@
+//! Template literals (ECMA-262, 13.2.8).
+ghost use Rattle.std.specs.Prelude.{◌≡◌, ◌++◌, [], ℕ, drop, map, slice_get, List, IfOk};
+ghost use Rattle.js_tree.specs.declared.node.Node as kind;
+ghost use Rattle.js_semantics.specs.Prog.{give, make_text};
+ghost use Rattle.js_semantics.specs.Expressions.{first_text, row_template, template_from};
+ghost use Rattle.js_machine.specs.Parts.{parts_of, texts_of};
+ghost use Rattle.js_machine.specs.Does.{Does};
+ghost use Rattle.js_machine.specs.Frames.{operand_rest};
+
+use crate::entering::{copy_scope, enter_operand};
+use crate::settling::finish;
+use crate::targets::node_at;
+use js_machine::{Next, OperandFrame, State};
+use js_operators::{Answer, primitive_text};
+use js_semantics::{Fault, Scope, StepFault};
+use js_tree::{Node, NodeId, Tree};
+use sqlite_items::{Items, at};
+use std::alloc::Global;
+use wl_text::{TextFault, Units};
+use world_heap::Value;
+
+// The texts of a template.
+#[tactic(auto, unfolding(js_machine::specs::Parts::texts_of))]
+fn texts_of(tree: &Tree, node: NodeId) -> &[Units]
+    ensures { result.now ≡ texts_of (slice_get (map (λ n. n.0) tree.now) node.0) }
+{
+    match node_at(tree, node) {
+        Some(Node::Template { texts, .. }) => texts.as_slice(),
+        _ => &[],
+    }
+}
+
+// The parts of a template.
+#[tactic(auto, unfolding(js_machine::specs::Parts::parts_of))]
+fn parts_of(tree: &Tree, node: NodeId) -> &[NodeId]
+    ensures { result.now ≡ parts_of (slice_get (map (λ n. n.0) tree.now) node.0) }
+{
+    match node_at(tree, node) {
+        Some(Node::Template { parts, .. }) => parts.as_slice(),
+        _ => &[],
+    }
+}
+
+// What is joined, with a text behind it.
+fn joined(alloc: Global, before: Items<u16>, text: &Units) -> Result<Items<u16>, StepFault>
+    ensures { IfOk result (λ joined. joined ≡ before ++ text.now) }
+{
+    let mut joined = before;
+    joined.append(Items::from_slice(alloc, text.as_slice())?)?;
+    Ok(joined)
+}
+
+// What is joined, with the text at a place behind it.
+fn with_text(
+    alloc: Global,
+    before: Items<u16>,
+    texts: &[Units],
+    place: usize,
+) -> Result<Items<u16>, StepFault>
+    ensures { IfOk result (λ joined. joined ≡ before ++ first_text (drop place texts.now)) }
+{
+    match at(texts, place) {
+        Some(text) => joined(alloc, before, text),
+        None => Ok(before),
+    }
+}
+
+// Gives the text of a template.
+#[tactic(auto, unfolding(js_semantics::specs::Prog::make_text, js_semantics::specs::Expressions::compute))]
+fn give_text(state: &mut State, units: &[u16]) -> Result<Next, StepFault>
+    ensures { (nodes : List kind.Node) → IfOk result (λ next. Does nodes 6 (make_text units.now (λ v. give v)) state.old state.new next) }
+{
+    match Units::of_units(state.alloc, units) {
+        Ok(text) => finish(state, Answer::Makes(text)),
+        Err(TextFault::TooLong) => state.throw(Fault::TooLong),
+        Err(TextFault::Memory) => Err(StepFault::Memory),
+    }
+}
+
+// The texts and parts of a template from a place on, behind what is joined already.
+fn template_from(
+    state: &mut State,
+    tree: &Tree,
+    node: NodeId,
+    place: usize,
+    before: Items<u16>,
+    scope: Scope,
+) -> Result<Next, StepFault>
+    ensures { IfOk result (λ next. Does (map (λ n. n.0) tree.now) 6 (template_from before (drop place (texts_of (slice_get (map (λ n. n.0) tree.now) node.0))) (drop place (parts_of (slice_get (map (λ n. n.0) tree.now) node.0))) scope) state.old state.new next) }
+{
+    let before = with_text(state.alloc, before, texts_of(tree, node), place)?;
+    match at(parts_of(tree, node), place) {
+        Some(part) => {
+            let inner = copy_scope(state.alloc, &scope)?;
+            let frame = OperandFrame::TemplatePart {
+                node,
+                next: place + 1,
+                before,
+                scope,
+            };
+            enter_operand(state, frame, *part, inner)
+        }
+        None => give_text(state, before.as_slice()),
+    }
+}
+
+/// A template literal (ECMA-262, 13.2.8.6): enters its first part, or gives its text.
+#[tactic(auto, unfolding(js_semantics::specs::Expressions::row_template))]
+pub fn row_template(
+    state: &mut State,
+    tree: &Tree,
+    node: NodeId,
+    scope: Scope,
+) -> Result<Next, StepFault>
+    ensures { IfOk result (λ next. Does (map (λ n. n.0) tree.now) 6 (row_template (texts_of (slice_get (map (λ n. n.0) tree.now) node.0)) (parts_of (slice_get (map (λ n. n.0) tree.now) node.0)) scope) state.old state.new next) }
+{
+    template_from(state, tree, node, 0, Items::new(state.alloc), scope)
+}
+
+/// A template literal with the value of a part, whose text goes behind what is joined already: enters the next part, or
+/// gives the text. A value that has no text is the error `WrongOperand`. The cost is linear in what is joined.
+pub fn template_part(
+    state: &mut State,
+    tree: &Tree,
+    node: NodeId,
+    place: usize,
+    before: Items<u16>,
+    scope: Scope,
+    value: Value,
+) -> Result<Next, StepFault>
+    ensures { IfOk result (λ next. Does (map (λ n. n.0) tree.now) 6 (operand_rest (map (λ n. n.0) tree.now) (OperandFrame.TemplatePart node place before scope) value) state.old state.new next) }
+{
+    match primitive_text(state.alloc, &value)? {
+        Some(text) => {
+            let joined = joined(state.alloc, before, &text)?;
+            template_from(state, tree, node, place, joined, scope)
+        }
+        None => state.throw(Fault::WrongOperand),
+    }
+}
