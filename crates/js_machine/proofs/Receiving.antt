@@ -69,15 +69,15 @@ pub fresh_alone : (nodes : List Node) (supply : ℕ → ℕ) (ds : List Arrival)
 unfolding alone_by trace_of run
 fresh_alone nodes supply ds kind heap s (heap_is, frames_are, control_is, steps_are, depth_is, kind_is, loaded_is) is =
     let places : s.heap.limits.places - s.heap.counts.places ≡ heap.limits.places =
-        ap (λ (h : HeapView). h.limits.places - h.counts.places) heap_is ∙ ap (λ (c : Counts). heap.limits.places - c.places) is.counts ∙ omega arith in
+    ap (λ (h : HeapView). h.limits.places - h.counts.places) heap_is ∙ ap (λ (c : Counts). heap.limits.places - c.places) is.counts ∙ omega arith in
     let budget : budget_of s ≡ first_budget heap.limits = λ i. record { steps = steps_are i; places = places i } in
     let cells : s.heap.cells ≡ realm (limited (realm_length kind + heap.limits.cells) supply) kind = ap (λ (h : HeapView). h.cells) heap_is ∙ is.cells in
     let units : s.heap.counts.units ≡ 0 = ap (λ (h : HeapView). h.counts.units) heap_is ∙ ap (λ (c : Counts). c.units) is.counts in
     let limits : s.heap.limits ≡ heap.limits = ap (λ (h : HeapView). h.limits) heap_is in
     let locations : limited (s.heap.base + s.heap.limits.cells) supply ≡ limited (realm_length kind + heap.limits.cells) supply =
-        ap (λ (h : HeapView). limited (h.base + h.limits.cells) supply) heap_is ∙ ap (λ b. limited (b + heap.limits.cells) supply) is.base in
+    ap (λ (h : HeapView). limited (h.base + h.limits.cells) supply) heap_is ∙ ap (λ b. limited (b + heap.limits.cells) supply) is.base in
     let world : world_of nodes supply s ≡ first_world nat_eq (limited (realm_length kind + heap.limits.cells) supply) (setting_of nodes kind heap) =
-        λ i. record { heap = cells i; depth = depth_is i; units = units i; limits = limits i; kind = kind_is i; tree = nodes; loaded = loaded_is i; supply = locations i; same = nat_eq } in
+    λ i. record { heap = cells i; depth = depth_is i; units = units i; limits = limits i; kind = kind_is i; tree = nodes; loaded = loaded_is i; supply = locations i; same = nat_eq } in
     λ i. run ds (budget i) (world i) (control_prog (control_is i) (under nodes (λ o. Over) (frames_are i)))
 
 length-nodes : (tree : List (Node × ℕ)) → length (map (λ n. n.0) tree) ≡ length tree
