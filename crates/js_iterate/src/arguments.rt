@@ -1,0 +1,290 @@
+//! The arguments of a call, with spreads among them (ECMA-262, 13.3.8.1: ArgumentListEvaluation).
+ghost use Rattle.std.specs.Prelude.{◌≡◌, ◌+◌, ◌++◌, [], ◌∷◌, drop, slice_get, true, false, List, IfOk, MatchOption, Some, None};
+ghost use Rattle.js_tree.specs.declared.node.Node as kind;
+ghost use Rattle.js_names.specs.Patterns.{nodes_of};
+ghost use Rattle.js_semantics.specs.Access.{call};
+ghost use Rattle.js_semantics.specs.Iteration.{items_at, values_of, walk_value};
+ghost use Rattle.js_semantics.specs.Prog.{Read, eval, give, step};
+ghost use Rattle.js_semantics.specs.World.{cell_at};
+ghost use Rattle.js_machine.specs.Does.{Does};
+ghost use Rattle.js_machine.specs.Frames.{arguments_rest, call_rest};
+ghost use Rattle.js_step_object.specs.Elements.{spread_in};
+ghost use Rattle.js_iterate.specs.Calls.{pending_rest};
+
+use crate::filling::discard;
+use crate::rests::items_at;
+use crate::walking::walk_value;
+use js_calls::{call_last, copy_scope};
+use js_machine::{CallFrame, CallTarget, Frame, Next, State, ValueFrame, stopped};
+use js_semantics::{Scope, StepFault, Stop};
+use js_step_stmt::{items_of, node_at};
+use js_tree::{Node, NodeId, Tree};
+use sqlite_items::Items;
+use world_heap::{Loc, Value};
+
+/// A call whose arguments are being evaluated: its node, the place of the argument that is next, the arguments before
+/// it, and what is called with which receiver.
+#[derive(Drop)]
+pub struct Pending<L = Loc> {
+    pub node: NodeId,
+    pub next: usize,
+    pub before: Items<Value<L>>,
+    pub callee: Value<L>,
+    pub receiver: Value<L>,
+}
+
+// The node whose values a spread puts among the arguments, where a node is a spread.
+fn spread_in(node: &Node) -> Option<NodeId>
+    ensures { result ≡ spread_in (Some node.now) }
+{
+    match node {
+        Node::Spread(list) => Some(*list),
+        _ => None,
+    }
+}
+
+// The same of the argument with a number.
+fn spread_of(tree: &Tree, argument: NodeId) -> Option<NodeId>
+    ensures { result ≡ spread_in (slice_get (nodes_of tree.now) argument.0) }
+{
+    match node_at(tree, argument) {
+        Some(node) => spread_in(node),
+        None => None,
+    }
+}
+
+// What stands at a place of a list, and the place behind it.
+#[tactic(auto, using(crate::proofs::Turns::drop_some, crate::proofs::Turns::drop_past))]
+fn next_of(list: &[NodeId], at: usize) -> Option<(NodeId, usize)>
+    ensures { MatchOption result (drop at list.now ≡ []) (λ found. (drop at list.now ≡ found.0 ∷ drop found.1 list.now) × (found.1 ≡ at + 1)) }
+{
+    if at < list.len() {
+        Some((list[at], at + 1))
+    } else {
+        None
+    }
+}
+
+// The frame of an argument of a call.
+fn argument_frame(pending: Pending, next: usize, spread: bool, scope: Scope) -> Frame
+    ensures { result ≡ Frame.OnValue (ValueFrame.Call (CallFrame.Argument pending.node next spread pending.before (CallTarget.Call pending.callee pending.receiver) scope)) }
+{
+    let target = CallTarget::Call {
+        callee: pending.callee,
+        receiver: pending.receiver,
+    };
+    Frame::OnValue(ValueFrame::Call(CallFrame::Argument {
+        node: pending.node,
+        next,
+        spread,
+        done: pending.before,
+        target,
+        scope,
+    }))
+}
+
+// Enters an argument that isn't spread.
+fn enter_one(
+    state: &mut State,
+    pending: Pending,
+    argument: NodeId,
+    next: usize,
+    scope: Scope,
+) -> Result<Next, StepFault>
+    ensures { (nodes : List kind.Node) → IfOk result (λ ended. Does nodes 4 (eval argument scope (λ v. arguments_rest nodes pending.node next (pending.before ++ v ∷ []) (CallTarget.Call pending.callee pending.receiver) scope)) state.old state.new ended) }
+{
+    let inner = copy_scope(state.alloc, &scope)?;
+    let frame = argument_frame(pending, next, false, scope);
+    state.enter(frame, argument, inner)
+}
+
+// Enters the list of a spread, whose own step is taken first.
+fn enter_spread(
+    state: &mut State,
+    pending: Pending,
+    list: NodeId,
+    next: usize,
+    scope: Scope,
+) -> Result<Next, StepFault>
+    ensures { (nodes : List kind.Node) → IfOk result (λ ended. Does nodes 4 (step (eval list scope (λ v. walk_value v (λ array. Read (λ w. arguments_rest nodes pending.node next (pending.before ++ items_at (cell_at array w)) (CallTarget.Call pending.callee pending.receiver) scope))))) state.old state.new ended) }
+{
+    let inner = copy_scope(state.alloc, &scope)?;
+    if !state.step_down() {
+        discard(inner);
+        discard(scope);
+        discard(pending);
+        return Ok(stopped(Stop::Fuel));
+    }
+    let frame = argument_frame(pending, next, true, scope);
+    state.enter(frame, list, inner)
+}
+
+// Enters an argument.
+fn enter_argument(
+    state: &mut State,
+    tree: &Tree,
+    pending: Pending,
+    argument: NodeId,
+    next: usize,
+    scope: Scope,
+) -> Result<Next, StepFault>
+    ensures { IfOk result (λ ended. Does (nodes_of tree.now) 4 (Read (λ w. values_of (slice_get w.tree argument.0) argument scope (λ vs. arguments_rest (nodes_of tree.now) pending.node next (pending.before ++ vs) (CallTarget.Call pending.callee pending.receiver) scope))) state.old state.new ended) }
+{
+    match spread_of(tree, argument) {
+        None => enter_one(state, pending, argument, next, scope),
+        Some(list) => enter_spread(state, pending, list, next, scope),
+    }
+}
+
+// Calls what is called, with all arguments.
+fn finish(state: &mut State, tree: &Tree, pending: Pending, scope: Scope) -> Result<Next, StepFault>
+    ensures { IfOk result (λ ended. Does (nodes_of tree.now) 4 (call pending.callee pending.receiver pending.before (λ v. give v)) state.old state.new ended) }
+{
+    discard(scope);
+    let callee = pending.callee;
+    let called = call_last(state, tree, &callee, pending.receiver, pending.before);
+    discard(callee);
+    called
+}
+
+// The arguments of a call from a place on, and then the call.
+fn arguments_on(
+    state: &mut State,
+    tree: &Tree,
+    pending: Pending,
+    scope: Scope,
+) -> Result<Next, StepFault>
+    ensures { IfOk result (λ ended. Does (nodes_of tree.now) 4 (pending_rest (nodes_of tree.now) pending scope) state.old state.new ended) }
+{
+    match next_of(items_of(tree, pending.node), pending.next) {
+        Some((argument, next)) => enter_argument(state, tree, pending, argument, next, scope),
+        None => finish(state, tree, pending, scope),
+    }
+}
+
+/// The arguments of a call from a place on, one after another, behind those that are evaluated already; then the call,
+/// whose value is that of the row. What can't be called throws once the arguments are evaluated.
+///
+/// # Errors
+/// `Memory` where there is none; `Dangling` where a location was met that stands nowhere.
+pub fn arguments_from(
+    state: &mut State,
+    tree: &Tree,
+    pending: Pending,
+    scope: Scope,
+) -> Result<Next, StepFault>
+    ensures some { IfOk result (λ ended. Does (nodes_of tree.now) 4 (pending_rest (nodes_of tree.now) pending scope) state.old state.new ended) }
+    ensures many { IfOk result (λ ended. Does (nodes_of tree.now) 6 (pending_rest (nodes_of tree.now) pending scope) state.old state.new ended) }
+{
+    arguments_on(state, tree, pending, scope)
+}
+
+// The call with one argument more before the next.
+fn with_value(pending: Pending, value: Value) -> Result<Pending, StepFault>
+    ensures { IfOk result (λ more. more ≡ record pending { before = pending.before ++ value ∷ [] }) }
+{
+    let mut before = pending.before;
+    before.push(value)?;
+    Ok(Pending {
+        node: pending.node,
+        next: pending.next,
+        before,
+        callee: pending.callee,
+        receiver: pending.receiver,
+    })
+}
+
+// The call with these arguments more before the next.
+fn with_values(pending: Pending, values: Items<Value>) -> Result<Pending, StepFault>
+    ensures { IfOk result (λ more. more ≡ record pending { before = pending.before ++ values }) }
+{
+    let mut before = pending.before;
+    before.append(values)?;
+    Ok(Pending {
+        node: pending.node,
+        next: pending.next,
+        before,
+        callee: pending.callee,
+        receiver: pending.receiver,
+    })
+}
+
+/// The rest of a frame of a callee that is no property (ECMA-262, 13.3.6.1): the arguments from the first on, and then
+/// the call with the receiver `undefined`.
+///
+/// # Errors
+/// `Memory` where there is none; `Dangling` where a location was met that stands nowhere.
+pub fn callee_value(
+    state: &mut State,
+    tree: &Tree,
+    node: NodeId,
+    scope: Scope,
+    callee: Value,
+) -> Result<Next, StepFault>
+    ensures { IfOk result (λ ended. Does (nodes_of tree.now) 6 (call_rest (nodes_of tree.now) (CallFrame.Callee node scope) callee) state.old state.new ended) }
+{
+    let pending = Pending {
+        node,
+        next: 0,
+        before: Items::new(state.alloc),
+        callee,
+        receiver: Value::Undefined,
+    };
+    arguments_from(state, tree, pending, scope)
+}
+
+/// The rest of a frame of an argument that isn't spread: its value is an argument, and those behind it follow.
+///
+/// # Errors
+/// `Memory` where there is none; `Dangling` where a location was met that stands nowhere.
+pub fn argument_value(
+    state: &mut State,
+    tree: &Tree,
+    pending: Pending,
+    scope: Scope,
+    value: Value,
+) -> Result<Next, StepFault>
+    ensures { IfOk result (λ ended. Does (nodes_of tree.now) 6 (call_rest (nodes_of tree.now) (CallFrame.Argument pending.node pending.next false pending.before (CallTarget.Call pending.callee pending.receiver) scope) value) state.old state.new ended) }
+{
+    let pending = with_value(pending, value)?;
+    arguments_from(state, tree, pending, scope)
+}
+
+// The items of the array that is walked are arguments, and those behind them follow.
+fn spread_items(
+    state: &mut State,
+    tree: &Tree,
+    pending: Pending,
+    scope: Scope,
+    array: Loc,
+) -> Result<Next, StepFault>
+    ensures { IfOk result (λ ended. Does (nodes_of tree.now) 6 (Read (λ w. arguments_rest (nodes_of tree.now) pending.node pending.next (pending.before ++ items_at (cell_at array w)) (CallTarget.Call pending.callee pending.receiver) scope)) state.old state.new ended) }
+{
+    let items = items_at(state.alloc, &state.heap, array)?;
+    let pending = with_values(pending, items)?;
+    arguments_from(state, tree, pending, scope)
+}
+
+/// The rest of a frame of an argument that is spread (ECMA-262, 13.3.8.1): the items of what its value is walked as are
+/// arguments, and those behind it follow. A value that can't be walked throws.
+///
+/// # Errors
+/// `Memory` where there is none; `Dangling` where a location was met that stands nowhere.
+pub fn spread_value(
+    state: &mut State,
+    tree: &Tree,
+    pending: Pending,
+    scope: Scope,
+    value: &Value,
+) -> Result<Next, StepFault>
+    ensures { IfOk result (λ ended. Does (nodes_of tree.now) 6 (call_rest (nodes_of tree.now) (CallFrame.Argument pending.node pending.next true pending.before (CallTarget.Call pending.callee pending.receiver) scope) value.now) state.old state.new ended) }
+{
+    match walk_value(state, value)? {
+        Ok(array) => spread_items(state, tree, pending, scope, array),
+        Err(ended) => {
+            discard(pending);
+            discard(scope);
+            Ok(ended)
+        }
+    }
+}

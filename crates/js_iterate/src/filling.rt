@@ -1,0 +1,115 @@
+//! How an array that is made to be walked is filled (ECMA-262, 22.1.5.1, 24.1.5 and 24.2.5).
+ghost use Rattle.std.specs.Prelude.{◌≡◌, [], ◌∷◌, List, IfOk};
+ghost use Rattle.js_tree.specs.declared.node.Node as kind;
+ghost use Rattle.js_semantics.specs.Access.{make_array};
+ghost use Rattle.js_semantics.specs.Iteration.{points_of, push_entries, push_item, push_items, push_texts};
+ghost use Rattle.js_semantics.specs.Prog.{make_text};
+ghost use Rattle.js_step_object.specs.Defining.{Comes, Makes};
+
+use crate::walking::Walking;
+use js_machine::{Next, State, stopped};
+use js_operators::point_end;
+use js_semantics::{StepFault, Stop};
+use js_step_object::push;
+use sqlite_items::Items;
+use std::alloc::Global;
+use wl_text::Units;
+use world_heap::{Loc, MapEntry, Value};
+
+/// Lets a value go. A generic function keeps the cases of its drop out of its callers' proofs.
+pub fn discard<T: Drop>(_value: T) {}
+
+/// Makes an array of these values (ECMA-262, 7.3.18: CreateArrayFromList), or the row has ended, since the world stops.
+pub fn new_array(state: &mut State, items: Items<Value>) -> Result<Walking, StepFault>
+    ensures { (nodes : List kind.Node) → IfOk result (λ made. Makes nodes (λ k. make_array items k) state.old state.new made) }
+{
+    match state.make_array(items)? {
+        Ok(loc) => Ok(Ok(loc)),
+        Err(stop) => Ok(Err(stopped(stop))),
+    }
+}
+
+/// Puts values at the end of an array that is being made, one after another. `None` where the row goes on; else it has
+/// ended, since no place is left. The cost is linear in the values, and in the units of strings among them.
+pub fn push_values(
+    state: &mut State,
+    array: Loc,
+    values: &[Value],
+) -> Result<Option<Next>, StepFault>
+    ensures { (nodes : List kind.Node) → IfOk result (λ ended. Comes nodes (λ p. push_items array values.now p) state.old state.new ended) }
+{
+    'values: for value in values {
+        let value = value.copy(state.alloc)?;
+        if let Some(next) = push(state, array, value)? {
+            return Ok(Some(next));
+        }
+    }
+    Ok(None)
+}
+
+// The key and the value of an entry.
+fn pair_of(alloc: Global, entry: &MapEntry) -> Result<Items<Value>, StepFault>
+    ensures { IfOk result (λ pair. pair ≡ entry.now.key ∷ entry.now.value ∷ []) }
+{
+    let mut pair = Items::new(alloc);
+    let key = entry.key.copy(alloc)?;
+    pair.push(key)?;
+    let value = entry.value.copy(alloc)?;
+    pair.push(value)?;
+    Ok(pair)
+}
+
+// Puts an array of an entry's key and value at the end of an array.
+fn push_entry(state: &mut State, array: Loc, entry: &MapEntry) -> Result<Option<Next>, StepFault>
+    ensures { (nodes : List kind.Node) → IfOk result (λ ended. Comes nodes (λ p. make_array (entry.now.key ∷ entry.now.value ∷ []) (λ pair. push_item array (Value.Ref pair) p)) state.old state.new ended) }
+{
+    let pair = pair_of(state.alloc, entry)?;
+    match new_array(state, pair)? {
+        Ok(loc) => push(state, array, Value::Ref(loc)),
+        Err(next) => Ok(Some(next)),
+    }
+}
+
+/// Puts an array of the key and the value of each entry at the end of an array, one after another.
+pub fn push_entries(
+    state: &mut State,
+    array: Loc,
+    entries: &[MapEntry],
+) -> Result<Option<Next>, StepFault>
+    ensures { (nodes : List kind.Node) → IfOk result (λ ended. Comes nodes (λ p. push_entries array entries.now p) state.old state.new ended) }
+{
+    'entries: for entry in entries {
+        if let Some(next) = push_entry(state, array, entry)? {
+            return Ok(Some(next));
+        }
+    }
+    Ok(None)
+}
+
+// Makes a text, whose units are counted, and puts it at the end of an array.
+fn push_text(state: &mut State, array: Loc, text: Units) -> Result<Option<Next>, StepFault>
+    ensures { (nodes : List kind.Node) → IfOk result (λ ended. Comes nodes (λ p. make_text text (λ v. push_item array v p)) state.old state.new ended) }
+{
+    let units = text.len();
+    if !state.count_units(units) {
+        discard(text);
+        return Ok(Some(stopped(Stop::Units)));
+    }
+    push(state, array, Value::Str(text))
+}
+
+/// Puts the code points of a text at the end of an array, each as a text (ECMA-262, 22.1.5.1).
+pub fn push_points(state: &mut State, array: Loc, text: &Units) -> Result<Option<Next>, StepFault>
+    ensures { (nodes : List kind.Node) → IfOk result (λ ended. Comes nodes (λ p. push_texts array (points_of text.now) p) state.old state.new ended) }
+{
+    let mut at = 0;
+    'points: while at < text.len() {
+        let end = point_end(text, at);
+        let point = text.part(state.alloc, at, end)?;
+        if let Some(next) = push_text(state, array, point)? {
+            return Ok(Some(next));
+        }
+        at = end;
+    }
+    Ok(None)
+}
