@@ -1,0 +1,73 @@
+//! The texts of keys and names, which are found in the tree.
+ghost use Rattle.std.specs.Prelude.{◌≡◌, IfOk, IfSome, Some, slice_get};
+ghost use Rattle.js_machine.specs.Frames.{key_text};
+ghost use Rattle.js_machine.specs.Parts.{name_of};
+ghost use Rattle.js_names.specs.Patterns.{nodes_of};
+
+use js_machine::Key;
+use js_semantics::StepFault;
+use js_tree::{Node, NodeId, Tree};
+use std::alloc::Global;
+use wl_text::Units;
+
+/// Lets a value go. A generic function keeps the cases of its drop out of its callers' proofs.
+pub(crate) fn discard<T: Drop>(_value: T) {}
+
+// The name of a `Name` or `Dot` node.
+#[tactic(auto, unfolding(js_machine::specs::Parts::name_of))]
+fn name_in(node: &Node) -> Option<&Units>
+    ensures { IfSome result (λ name. name.now ≡ name_of (Some node.now)) }
+{
+    match node {
+        Node::Name(name) => Some(name),
+        Node::Dot { name, .. } => Some(name),
+        _ => None,
+    }
+}
+
+/// The name that a `Name` or `Dot` node of the tree has (ECMA-262, 13.1 and 13.3.2); `None` where there is no such node.
+pub fn name_at(tree: &Tree, node: NodeId) -> Option<&Units>
+    ensures { IfSome result (λ name. name.now ≡ name_of (slice_get (nodes_of tree.now) node.0)) }
+{
+    if node.0 < tree.len() {
+        name_in(tree.node(node))
+    } else {
+        None
+    }
+}
+
+/// The text of a key; `None` where it names a node that has none.
+pub fn key_units<'a>(tree: &'a Tree, key: &'a Key) -> Option<&'a Units>
+    ensures { IfSome result (λ text. text.now ≡ key_text (nodes_of tree.now) key.now) }
+{
+    match key {
+        Key::Named(node) => name_at(tree, *node),
+        Key::Text(text) => Some(text),
+    }
+}
+
+/// The same key again. A text is copied, in time linear in its units.
+///
+/// # Errors
+/// `Memory` where there is none.
+pub fn copy_key(alloc: Global, key: &Key) -> Result<Key, StepFault>
+    ensures { IfOk result (λ copy. copy ≡ key.now) }
+{
+    match key {
+        Key::Named(node) => Ok(Key::Named(*node)),
+        Key::Text(text) => Ok(Key::Text(text.copy(alloc)?)),
+    }
+}
+
+// The text of a key, as one of its own.
+pub(crate) fn own_text(alloc: Global, tree: &Tree, key: Key) -> Result<Units, StepFault>
+    ensures { IfOk result (λ text. text ≡ key_text (nodes_of tree.now) key) }
+{
+    match key {
+        Key::Named(node) => match name_at(tree, node) {
+            Some(name) => Ok(name.copy(alloc)?),
+            None => Err(StepFault::Dangling),
+        },
+        Key::Text(text) => Ok(text),
+    }
+}
