@@ -1,0 +1,9 @@
+//! The rows of the built-in functions: the console, the functions of errors, and `require`.
+#![tactic(auto)]
+
+mod console;
+mod dispatch;
+mod errors;
+mod require;
+
+pub use dispatch::native;
