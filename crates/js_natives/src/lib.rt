@@ -5,5 +5,7 @@ mod console;
 mod dispatch;
 mod errors;
 mod require;
+#[cfg(test)]
+mod tests;
 
 pub use dispatch::native;
