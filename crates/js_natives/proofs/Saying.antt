@@ -1,6 +1,5 @@
 -- Rows by what their arguments say.
 use Rattle.std.proofs.Common.{◌≡◌, ◌++◌, ℕ, codes, take, length, true, false, if◌then◌else◌, List, [], ◌∷◌, Option, Some, None, IfOk, Result, refl, sym, ap, ◌∙◌}
-use Rattle.std.proofs.lemmas.Result.{IfOk-weaker}
 use Rattle.js_tree.specs.declared.node.Node.{Node}
 use Rattle.parcel.specs.declared.parcel.ErrorKind.{ErrorKind}
 use Rattle.world_heap.specs.declared.value.Value.{Value}
