@@ -49,12 +49,12 @@ assign_at nodes node Other value scope = throw WrongOperand
 abbrev pub delete_at : List Node → NodeId → Target → Scope ℕ → Prog ℕ
 delete_at nodes node (Dot object) scope = step (of_object nodes node object uses.Delete scope)
 delete_at nodes node (Index object key) scope = step (of_index nodes object key uses.Delete scope)
-delete_at nodes node other scope = eval node scope (λ v. give (Boolean true))
+delete_at nodes node _ scope = eval node scope (λ v. give (Boolean true))
 
 -- the row of `typeof`, by what it is told of
 abbrev pub typeof_at : List Node → NodeId → Target → Scope ℕ → Prog ℕ
 typeof_at nodes node Name scope = step (left_of nodes (Read node scope.env afters.Typeof))
-typeof_at nodes node other scope = eval node scope (λ v. give_type v)
+typeof_at nodes node _ scope = eval node scope (λ v. give_type v)
 
 -- the row of `++` and `--`, by their target
 abbrev pub update_at : List Node → NodeId → Target → UpdateOperator → (before : Bool) → Scope ℕ → Prog ℕ

@@ -279,13 +279,12 @@ fn room(alloc: Global) -> Result<MemSink, Fail> {
 fn run_writes_the_log_or_the_first_refusal(rt: HostRuntime) -> Result<(), Fail> {
     let alloc = rt.alloc();
     let words = words_of(alloc, &["run", "a", "e"])?;
-    for row in &ROWS {
+    for (at, row) in ROWS.iter().enumerate() {
         let mut folder = folder_of(alloc, row)?;
         let mut sink = room(alloc)?;
         let status = worlds(alloc, words.as_slice(), &mut folder, &mut sink);
-        let text = row.text;
-        assert_eq!(rt; status.code(), row.status, "status of {text}");
-        assert!(rt; sink.taken() == text.as_bytes(), "text of {text}");
+        assert_eq!(rt; status.code(), row.status, "status of row {at}");
+        assert!(rt; sink.taken() == row.text.as_bytes(), "text of row {at}");
     }
     Ok(())
 }
