@@ -279,12 +279,13 @@ fn room(alloc: Global) -> Result<MemSink, Fail> {
 fn run_writes_the_log_or_the_first_refusal(rt: HostRuntime) -> Result<(), Fail> {
     let alloc = rt.alloc();
     let words = words_of(alloc, &["run", "a", "e"])?;
-    for (at, row) in ROWS.iter().enumerate() {
+    for row in &ROWS {
         let mut folder = folder_of(alloc, row)?;
         let mut sink = room(alloc)?;
         let status = worlds(alloc, words.as_slice(), &mut folder, &mut sink);
-        assert_eq!(rt; status.code(), row.status, "status of row {at}");
-        assert!(rt; sink.taken() == row.text.as_bytes(), "text of row {at}");
+        let text = row.text;
+        assert_eq!(rt; status.code(), row.status);
+        assert!(rt; sink.taken() == text.as_bytes());
     }
     Ok(())
 }
