@@ -11,8 +11,8 @@ use Rattle.js_tree.specs.declared.node.Node.{Node}
 use Rattle.js_tree.specs.declared.node.BindElement.{BindElement}
 use Rattle.js_semantics.specs.declared.scope.Scope.{Scope}
 use Rattle.js_semantics.specs.declared.fault.StepFault.{StepFault}
-use Rattle.js_semantics.specs.declared.entry.Product.TheVariants.{Stopped}
-use Rattle.js_semantics.specs.declared.entry.Stop.{Stop}
+use Rattle.world_log.specs.declared.entry.Product.TheVariants.{Stopped}
+use Rattle.world_log.specs.declared.entry.Stop.{Stop}
 use Rattle.js_semantics.specs.declared.outcome.Outcome.TheVariants.{Normal}
 use Rattle.js_semantics.specs.World.{built_in}
 use Rattle.js_semantics.specs.Prog.{Prog, Bind, End, Enter, Node as NodeRequest, alloc, eval, on_value}

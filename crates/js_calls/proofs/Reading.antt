@@ -22,8 +22,8 @@ use Rattle.js_machine.specs.declared.state.State.{State}
 use Rattle.js_machine.specs.declared.state.Next.{Next}
 use Rattle.js_machine.specs.declared.state.Next.TheVariants.{Made}
 use Rattle.js_machine.specs.Does.{CountsUnits, Does}
-use Rattle.js_semantics.specs.declared.entry.Product.TheVariants.{Stopped}
-use Rattle.js_semantics.specs.declared.entry.Stop.TheVariants.{Units}
+use Rattle.world_log.specs.declared.entry.Product.TheVariants.{Stopped}
+use Rattle.world_log.specs.declared.entry.Stop.TheVariants.{Units}
 use Rattle.js_machine.proofs.Doing.{does_read_ok}
 use Rattle.js_machine.proofs.Allocating.{does_not_units, does_units_ok}
 use Rattle.js_calls.specs.Reading.{made_value}

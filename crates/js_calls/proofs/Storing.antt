@@ -17,9 +17,9 @@ use Rattle.js_tree.specs.declared.node.Node.{Node}
 use Rattle.js_semantics.specs.declared.fault.Fault.{Fault}
 use Rattle.js_semantics.specs.declared.fault.Fault.TheVariants.{ReadOnly}
 use Rattle.js_semantics.specs.declared.fault.StepFault.{StepFault}
-use Rattle.js_semantics.specs.declared.entry.Product.TheVariants.{Stopped}
-use Rattle.js_semantics.specs.declared.entry.Stop.{Stop}
-use Rattle.js_semantics.specs.declared.entry.Stop.TheVariants as stops
+use Rattle.world_log.specs.declared.entry.Product.TheVariants.{Stopped}
+use Rattle.world_log.specs.declared.entry.Stop.{Stop}
+use Rattle.world_log.specs.declared.entry.Stop.TheVariants as stops
 use Rattle.js_semantics.specs.Run.{receive, run}
 use Rattle.js_semantics.specs.World.{with_cell}
 use Rattle.js_semantics.specs.Prog.{Prog, Place, Read, Write, bind, throw}

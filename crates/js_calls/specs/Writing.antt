@@ -9,8 +9,8 @@ use Rattle.proto_props.specs.declared.outcome.Refusal.TheVariants.{Operand, Read
 use Rattle.proto_props.specs.declared.outcome.SetDone.{SetDone}
 use Rattle.proto_props.specs.declared.outcome.SetDone.TheVariants as done
 use Rattle.proto_props.specs.Changes.{Change, Rewrites, Extends, Stays, CallsSetter, Refuses, Carries}
-use Rattle.js_semantics.specs.declared.entry.Stop.{Stop}
-use Rattle.js_semantics.specs.declared.entry.Stop.TheVariants.{Places}
+use Rattle.world_log.specs.declared.entry.Stop.{Stop}
+use Rattle.world_log.specs.declared.entry.Stop.TheVariants.{Places}
 use Rattle.js_machine.specs.declared.state.State.{State}
 use Rattle.js_machine.specs.declared.state.Control.TheVariants as controls
 use Rattle.js_semantics.specs.declared.fault.Fault.{Fault}

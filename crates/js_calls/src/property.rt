@@ -14,13 +14,14 @@ ghost use Rattle.js_calls.specs.Reading.{made_value};
 use crate::calling::call_over;
 use crate::scopes::discard;
 use js_machine::{AfterFrame, Next, State, stopped};
-use js_semantics::{Fault, StepFault, Stop};
+use js_semantics::{Fault, StepFault};
 use js_tree::Tree;
 use proto_props::{Got, get_step};
 use sqlite_items::Items;
 use std::alloc::Global;
 use wl_text::{Units, index_of};
 use world_heap::{Heap, Loc, Value};
+use world_log::Stop;
 
 /// Whether a location is that of a cell.
 pub fn is_cell(heap: &Heap, loc: Loc) -> bool

@@ -16,13 +16,14 @@ use crate::calling::call_over;
 use crate::property::is_cell;
 use crate::scopes::discard;
 use js_machine::{AfterFrame, Control, Next, State, stopped};
-use js_semantics::{Fault, Outcome, StepFault, Stop};
+use js_semantics::{Fault, Outcome, StepFault};
 use js_tree::Tree;
 use proto_props::{Refusal, SetDone, set_step};
 use sqlite_items::Items;
 use std::alloc::Global;
 use wl_text::Units;
 use world_heap::{Cell, Heap, HeapFault, Loc, Value};
+use world_log::Stop;
 
 // The error of the language for a refusal.
 #[tactic(auto, unfolding(crate::specs::Writing::fault_for))]

@@ -8,9 +8,9 @@ use Rattle.world_heap.specs.declared.value.Value.TheVariants.{Str, Ref}
 use Rattle.world_heap.specs.declared.builtin.BuiltIn.TheVariants.{ArrayPrototype}
 use Rattle.world_heap.specs.declared.cell.Cell.{Cell}
 use Rattle.world_heap.specs.declared.cell.Cell.TheVariants.{Array}
-use Rattle.js_semantics.specs.declared.entry.Product.TheVariants.{Stopped}
-use Rattle.js_semantics.specs.declared.entry.Stop.{Stop}
-use Rattle.js_semantics.specs.declared.entry.Stop.TheVariants.{Units}
+use Rattle.world_log.specs.declared.entry.Product.TheVariants.{Stopped}
+use Rattle.world_log.specs.declared.entry.Stop.{Stop}
+use Rattle.world_log.specs.declared.entry.Stop.TheVariants.{Units}
 use Rattle.js_semantics.specs.declared.fault.Fault.TheVariants.{TooLong}
 use Rattle.js_semantics.specs.declared.fault.StepFault.{StepFault}
 use Rattle.world_heap.specs.declared.cell.MapEntry.{MapEntry}

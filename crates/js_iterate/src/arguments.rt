@@ -16,11 +16,12 @@ use crate::rests::items_at;
 use crate::walking::walk_value;
 use js_calls::{call_last, copy_scope};
 use js_machine::{CallFrame, CallTarget, Frame, Next, State, ValueFrame, stopped};
-use js_semantics::{Scope, StepFault, Stop};
+use js_semantics::{Scope, StepFault};
 use js_step_stmt::{items_of, node_at};
 use js_tree::{Node, NodeId, Tree};
 use sqlite_items::Items;
 use world_heap::{Loc, Value};
+use world_log::Stop;
 
 /// A call whose arguments are being evaluated: its node, the place of the argument that is next, the arguments before
 /// it, and what is called with which receiver.

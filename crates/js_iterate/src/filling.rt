@@ -9,12 +9,13 @@ ghost use Rattle.js_step_object.specs.Defining.{Comes, Makes};
 use crate::walking::Walking;
 use js_machine::{Next, State, stopped};
 use js_operators::point_end;
-use js_semantics::{StepFault, Stop};
+use js_semantics::StepFault;
 use js_step_object::push;
 use sqlite_items::Items;
 use std::alloc::Global;
 use wl_text::Units;
 use world_heap::{Loc, MapEntry, Value};
+use world_log::Stop;
 
 /// Lets a value go. A generic function keeps the cases of its drop out of its callers' proofs.
 pub fn discard<T: Drop>(_value: T) {}

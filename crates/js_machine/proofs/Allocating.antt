@@ -15,10 +15,10 @@ use Rattle.js_semantics.specs.declared.fault.StepFault.{StepFault}
 use Rattle.js_semantics.specs.World.{World, limited}
 use Rattle.js_semantics.specs.Prog.{Prog, Cont, Over, End, Read, Write, Place, Make, bind, alloc, placed, halt, with_new, count_places, count_units}
 use Rattle.js_semantics.specs.Run.{Arrival, Budget, Then, Cut, receive, run}
-use Rattle.js_semantics.specs.declared.entry.Entry.TheVariants as entry
-use Rattle.js_semantics.specs.declared.entry.Product.TheVariants.{Stopped}
-use Rattle.js_semantics.specs.declared.entry.Stop.{Stop}
-use Rattle.js_semantics.specs.declared.entry.Stop.TheVariants.{Fuel, Cells, Places, Units}
+use Rattle.world_log.specs.declared.entry.Entry.TheVariants as entry
+use Rattle.world_log.specs.declared.entry.Product.TheVariants.{Stopped}
+use Rattle.world_log.specs.declared.entry.Stop.{Stop}
+use Rattle.world_log.specs.declared.entry.Stop.TheVariants.{Fuel, Cells, Places, Units}
 use Rattle.js_semantics.proofs.Programs.{places_some, place_some, place_none, count_bind}
 use Rattle.js_machine.specs.declared.state.State.{State}
 use Rattle.js_machine.specs.declared.state.Control.TheVariants as controls

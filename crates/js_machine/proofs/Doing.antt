@@ -11,8 +11,8 @@ use Rattle.js_semantics.specs.World.{World}
 use Rattle.js_semantics.specs.Prog.{Prog, Cont, Over, End, Enter, Read, Write, Place, Make, Request, Step, step, bind}
 use Rattle.js_semantics.specs.Rows.{row}
 use Rattle.js_semantics.specs.Run.{Arrival, Budget, receive, run}
-use Rattle.js_semantics.specs.declared.entry.Product.TheVariants.{Stopped}
-use Rattle.js_semantics.specs.declared.entry.Stop.TheVariants.{Fuel}
+use Rattle.world_log.specs.declared.entry.Product.TheVariants.{Stopped}
+use Rattle.world_log.specs.declared.entry.Stop.TheVariants.{Fuel}
 use Rattle.js_semantics.proofs.Programs.{bind_assoc, spend_some, spend_none}
 use Rattle.js_machine.specs.declared.frame.Frame.{Frame}
 use Rattle.js_machine.specs.declared.frame.Frame.TheVariants as frames

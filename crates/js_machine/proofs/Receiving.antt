@@ -6,10 +6,10 @@ use Rattle.world_kind.specs.declared.WorldKind.{WorldKind}
 use Rattle.js_tree.specs.declared.node.Node.{Node}
 use Rattle.world_heap.specs.declared.limits.Counts.{Counts}
 use Rattle.world_heap.specs.Views.{HeapView}
-use Rattle.js_semantics.specs.declared.entry.Entry.TheVariants as entry
-use Rattle.js_semantics.specs.declared.entry.Mode.TheVariants.{Idle, Crossing}
-use Rattle.js_semantics.specs.declared.entry.Delivery.{Delivery}
-use Rattle.js_semantics.specs.declared.entry.Delivery.TheVariants.{Load}
+use Rattle.world_log.specs.declared.entry.Entry.TheVariants as entry
+use Rattle.js_semantics.specs.declared.mode.Mode.TheVariants.{Idle, Crossing}
+use Rattle.world_log.specs.declared.entry.Delivery.{Delivery}
+use Rattle.world_log.specs.declared.entry.Delivery.TheVariants.{Load}
 use Rattle.js_semantics.specs.declared.fault.StepFault.{StepFault}
 use Rattle.js_semantics.specs.Alone.{alone_by, trace_of}
 use Rattle.js_semantics.specs.Prog.{Over, Enter, Script, bind}

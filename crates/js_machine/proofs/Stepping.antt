@@ -2,8 +2,8 @@
 use Rattle.std.proofs.Common.{◌≡◌, ℕ, ◌+◌, ◌*◌, ◌-◌, ◌≤◌, ◌<◌, List, [], ◌∷◌, ◌++◌, IfOk, Result, refl, sym, ap, ◌∙◌, arith}
 use Rattle.std.proofs.lemmas.Result.{IfOk-weaker}
 use Rattle.js_tree.specs.declared.node.Node.{Node}
-use Rattle.js_semantics.specs.declared.entry.Mode.{Mode}
-use Rattle.js_semantics.specs.declared.entry.Product.TheVariants.{Rest}
+use Rattle.js_semantics.specs.declared.mode.Mode.{Mode}
+use Rattle.world_log.specs.declared.entry.Product.TheVariants.{Rest}
 use Rattle.js_semantics.specs.declared.fault.StepFault.{StepFault}
 use Rattle.js_semantics.specs.declared.outcome.Outcome.{Outcome}
 use Rattle.js_semantics.specs.Prog.{Over, Request, bind}

@@ -8,15 +8,15 @@ use Rattle.world_heap.specs.Views.{HeapView}
 use Rattle.world_heap.specs.declared.limits.HeapFault.TheVariants as full
 use Rattle.world_heap.specs.Growth.{first_full, counts_with, grown}
 use Rattle.world_kind.specs.declared.WorldKind.{WorldKind}
-use Rattle.js_semantics.specs.declared.entry.Delivery.{Delivery}
-use Rattle.js_semantics.specs.declared.entry.Delivery.TheVariants.{Load}
-use Rattle.js_semantics.specs.declared.entry.Entry.{Entry}
-use Rattle.js_semantics.specs.declared.entry.Entry.TheVariants as entry
-use Rattle.js_semantics.specs.declared.entry.Mode.{Mode}
-use Rattle.js_semantics.specs.declared.entry.Mode.TheVariants.{Idle}
-use Rattle.js_semantics.specs.declared.entry.Product.{Product}
-use Rattle.js_semantics.specs.declared.entry.Stop.{Stop}
-use Rattle.js_semantics.specs.declared.entry.Stop.TheVariants.{Cells, Places}
+use Rattle.world_log.specs.declared.entry.Delivery.{Delivery}
+use Rattle.world_log.specs.declared.entry.Delivery.TheVariants.{Load}
+use Rattle.world_log.specs.declared.entry.Entry.{Entry}
+use Rattle.world_log.specs.declared.entry.Entry.TheVariants as entry
+use Rattle.js_semantics.specs.declared.mode.Mode.{Mode}
+use Rattle.js_semantics.specs.declared.mode.Mode.TheVariants.{Idle}
+use Rattle.world_log.specs.declared.entry.Product.{Product}
+use Rattle.world_log.specs.declared.entry.Stop.{Stop}
+use Rattle.world_log.specs.declared.entry.Stop.TheVariants.{Cells, Places}
 use Rattle.js_semantics.specs.World.{World, limited}
 use Rattle.js_semantics.specs.Prog.{Prog, Cont, End, Over, Await, Request, Script, Node as NodeRequest, Bind, Member, Native, bind}
 use Rattle.js_semantics.specs.Rows.{row}

@@ -7,10 +7,11 @@ ghost use Rattle.js_machine.specs.Does.{Does, IsEntered, StepsDown, under_frame}
 
 use crate::frame::{AfterFrame, Frame};
 use crate::state::{Control, Next, State};
-use js_semantics::{Outcome, Product, Scope, StepFault, Stop};
+use js_semantics::{Outcome, Scope, StepFault};
 use js_tree::NodeId;
 use sqlite_items::Items;
 use world_heap::{Loc, Value};
+use world_log::{Product, Stop};
 
 /// Lets a value go. A generic function keeps the cases of its drop out of its callers' proofs.
 pub fn discard<T: Drop>(_value: T) {}

@@ -12,13 +12,14 @@ ghost use Rattle.js_machine.specs.Parts.{message_entry};
 use crate::basic::discard;
 use crate::fitting::{are_fit, are_fit_bindings, is_cell, is_fit_option, is_outer, is_prototype};
 use crate::state::{Control, State};
-use js_semantics::{StepFault, Stop};
+use js_semantics::StepFault;
 use js_tree::NodeId;
 use parcel::ErrorKind;
 use sqlite_items::Items;
 use std::alloc::Global;
 use wl_text::Units;
 use world_heap::{Binding, Body, BuiltIn, Cell, HeapFault, Loc, Property, Table, Value};
+use world_log::Stop;
 
 impl State {
     // Makes a cell, or stops.

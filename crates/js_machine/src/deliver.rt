@@ -7,11 +7,12 @@ ghost use Rattle.js_machine.specs.Does.{Does, IsFresh, IsRealm, Receives, does_a
 
 use crate::frame::Frame;
 use crate::state::{Control, Next, State};
-use js_semantics::{Delivery, Mode, StepFault};
+use js_semantics::{Mode, StepFault};
 use js_tree::{NodeId, Tree};
 use std::alloc::Global;
 use world_heap::Heap;
 use world_kind::WorldKind;
+use world_log::Delivery;
 
 impl State {
     /// The state of a world in which nothing has happened, over its heap. It takes no memory. Over the built-in cells of

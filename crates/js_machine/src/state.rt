@@ -1,11 +1,12 @@
 //! The state of a machine between two steps.
 use crate::frame::Frame;
-use js_semantics::{Mode, Outcome, Product, Scope};
+use js_semantics::{Mode, Outcome, Scope};
 use js_tree::NodeId;
 use sqlite_items::Items;
 use std::alloc::Global;
 use world_heap::{Heap, Loc, Value};
 use world_kind::WorldKind;
+use world_log::Product;
 
 /// What is next. The step of a node that is entered is taken already.
 #[derive(Drop)]

@@ -2,9 +2,9 @@
 use Rattle.std.proofs.Common.{◌≡◌, ℕ, ◌+◌, ◌*◌, ◌≤◌, Ok, Err, Some, None, Option, List, [], ◌∷◌, IfOk, Result, refl, sym, ap, ◌∙◌, arith}
 use Rattle.js_tree.specs.declared.node.Node.{Node}
 use Rattle.parcel.specs.declared.parcel.ErrorKind.{ErrorKind}
-use Rattle.js_semantics.specs.declared.entry.Stop.{Stop}
-use Rattle.js_semantics.specs.declared.entry.Product.{Product}
-use Rattle.js_semantics.specs.declared.entry.Product.TheVariants.{Stopped}
+use Rattle.world_log.specs.declared.entry.Stop.{Stop}
+use Rattle.world_log.specs.declared.entry.Product.{Product}
+use Rattle.world_log.specs.declared.entry.Product.TheVariants.{Stopped}
 use Rattle.js_semantics.specs.declared.fault.StepFault.{StepFault}
 use Rattle.js_semantics.specs.declared.outcome.Outcome.{Outcome}
 use Rattle.js_semantics.specs.Prog.{Prog, End, Make, alloc, error_cell, make_error}

@@ -8,7 +8,7 @@ use Rattle.js_semantics.specs.declared.fault.Fault.TheVariants.{WrongArgument}
 use Rattle.js_semantics.specs.declared.fault.StepFault.{StepFault}
 use Rattle.world_kind.specs.declared.WorldKind.{WorldKind}
 use Rattle.world_log.specs.declared.entry.Level.{Level}
-use Rattle.js_semantics.specs.declared.entry.Product.TheVariants.{Console}
+use Rattle.world_log.specs.declared.entry.Product.TheVariants.{Console}
 use Rattle.js_semantics.specs.Display.{line_of}
 use Rattle.js_semantics.specs.World.{World, over}
 use Rattle.js_semantics.specs.Prog.{Make, Native, Prog, Read, count_units, give, throw}

@@ -7,10 +7,10 @@ ghost use Rattle.js_machine.specs.Does.{Does};
 
 use js_display::line_of;
 use js_machine::{Control, Next, State, stopped};
-use js_semantics::{Outcome, Product, StepFault, Stop};
+use js_semantics::{Outcome, StepFault};
 use wl_text::Units;
 use world_heap::Value;
-use world_log::Level;
+use world_log::{Level, Product, Stop};
 
 // Tells a line, and gives undefined.
 fn told(state: &mut State, level: Level, text: Units) -> Result<Next, StepFault>

@@ -9,12 +9,13 @@ ghost use Rattle.js_machine.specs.Does.{Does};
 ghost use Rattle.js_natives.specs.Arguments.{module_in, name_given, name_value, named};
 
 use js_machine::{Next, State, stopped};
-use js_semantics::{Fault, Outcome, StepFault, Stop};
+use js_semantics::{Fault, Outcome, StepFault};
 use parcel::ErrorKind;
 use std::alloc::Global;
 use wl_text::Units;
 use world_heap::{Loc, Value};
 use world_kind::WorldKind;
+use world_log::Stop;
 
 /// The text `electron`.
 const ELECTRON: [u16; 8] = [101, 108, 101, 99, 116, 114, 111, 110];

@@ -1,11 +1,12 @@
 //! Calls of built-in functions, by their numbers.
 use crate::native;
 use js_machine::{Control, Next, State};
-use js_semantics::{Outcome, Product, StepFault};
+use js_semantics::{Outcome, StepFault};
 use std::alloc::{AllocError, Global};
 use wl_text::Units;
 use world_heap::{Heap, Limits, Loc, Pool, Value};
 use world_kind::WorldKind;
+use world_log::Product;
 
 // The state of a world whose units are limited.
 fn state_of(alloc: Global) -> Result<State, AllocError> {

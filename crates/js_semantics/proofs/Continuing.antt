@@ -1,9 +1,9 @@
 -- The transcript of more deliveries begins with that of the first ones.
 use Rattle.std.proofs.Common.{ℕ, zero, suc, List, [], ◌∷◌, ◌++◌, Bool, true, false, refl, ap}
 use Rattle.std.specs.Prelude.{if◌then◌else◌, nat_eq}
-use Rattle.js_semantics.specs.declared.entry.Mode.{Mode}
-use Rattle.js_semantics.specs.declared.entry.Mode.TheVariants.{Idle}
-use Rattle.js_semantics.specs.declared.entry.Entry.TheVariants as entry
+use Rattle.js_semantics.specs.declared.mode.Mode.{Mode}
+use Rattle.js_semantics.specs.declared.mode.Mode.TheVariants.{Idle}
+use Rattle.world_log.specs.declared.entry.Entry.TheVariants as entry
 use Rattle.js_semantics.specs.World.{World, limited}
 use Rattle.js_semantics.specs.declared.outcome.Outcome.{Outcome}
 use Rattle.js_semantics.specs.Prog.{Prog, Cont, End, Over, Enter, Make, Read, Write, Place, Await, Request, bind}

@@ -17,7 +17,7 @@ use Rattle.world_heap.specs.declared.cell.Binding.{Binding}
 use Rattle.world_heap.specs.declared.cell.MapEntry.{MapEntry}
 use Rattle.world_heap.specs.declared.cell.Cell.{Cell}
 use Rattle.world_heap.specs.declared.cell.Cell.TheVariants.{Object, Array, Closure, Native, Far, Error, Map, Set, Promise, Port, Buffer, View, Symbol, Env}
-use Rattle.js_semantics.specs.declared.entry.Entry.{Entry}
+use Rattle.world_log.specs.declared.entry.Entry.{Entry}
 use Rattle.js_semantics.specs.declared.scope.Scope.{Scope}
 use Rattle.js_semantics.specs.World.{Heap}
 use Rattle.js_semantics.specs.declared.outcome.Outcome.{Outcome}

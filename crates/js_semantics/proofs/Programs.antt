@@ -1,9 +1,9 @@
 -- Laws of programs, whatever their rows are: what a machine needs that takes one step after another.
 use Rattle.std.proofs.Common.{◌≡◌, ◌≢◌, ℕ, zero, suc, ◌-◌, ◌≤◌, List, refl, sym, ap, ◌∙◌, arith}
 use mathlib.Core.Path.{fun_ext}
-use Rattle.js_semantics.specs.declared.entry.Entry.TheVariants as entry
-use Rattle.js_semantics.specs.declared.entry.Product.TheVariants.{Stopped}
-use Rattle.js_semantics.specs.declared.entry.Stop.TheVariants.{Fuel, Places}
+use Rattle.world_log.specs.declared.entry.Entry.TheVariants as entry
+use Rattle.world_log.specs.declared.entry.Product.TheVariants.{Stopped}
+use Rattle.world_log.specs.declared.entry.Stop.TheVariants.{Fuel, Places}
 use Rattle.js_semantics.specs.World.{World}
 use Rattle.js_semantics.specs.Prog.{Prog, Cont, End, Over, Make, Read, Write, Place, Enter, Await, Request, bind, count_places}
 use Rattle.js_semantics.specs.Rows.{row}

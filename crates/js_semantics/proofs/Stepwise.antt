@@ -1,7 +1,7 @@
 -- A node is evaluated by recursion: its row with one step less, and then what is done with its outcome.
 use Rattle.std.proofs.Common.{◌≡◌, ℕ, zero, suc, List, [], ◌∷◌, Bool, true, false, if◌then◌else◌, refl, sym, ap, ◌∙◌}
-use Rattle.js_semantics.specs.declared.entry.Entry.TheVariants as entry
-use Rattle.js_semantics.specs.declared.entry.Mode.{Mode}
+use Rattle.world_log.specs.declared.entry.Entry.TheVariants as entry
+use Rattle.js_semantics.specs.declared.mode.Mode.{Mode}
 use Rattle.js_semantics.specs.World.{World}
 use Rattle.js_semantics.specs.declared.outcome.Outcome.{Outcome}
 use Rattle.js_semantics.specs.Prog.{Prog, Cont, End, Over, Make, Read, Write, Place, Enter, Await, Request, bind}

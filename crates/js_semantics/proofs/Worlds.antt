@@ -5,11 +5,11 @@ use Rattle.world_log.specs.declared.entry.Level.{Level}
 use Rattle.world_log.specs.declared.entry.Level.TheVariants.{Log}
 use Rattle.js_tree.specs.declared.node.NodeId.{NodeId}
 use Rattle.js_tree.specs.declared.node.Node as nodes
-use Rattle.js_semantics.specs.declared.entry.Delivery.TheVariants.{Load}
-use Rattle.js_semantics.specs.declared.entry.Entry.{Entry}
-use Rattle.js_semantics.specs.declared.entry.Entry.TheVariants as entry
-use Rattle.js_semantics.specs.declared.entry.Product.TheVariants.{Console, Uncaught, Rest, Stopped}
-use Rattle.js_semantics.specs.declared.entry.Stop.TheVariants.{Fuel, Cells, Places, Units}
+use Rattle.world_log.specs.declared.entry.Delivery.TheVariants.{Load}
+use Rattle.world_log.specs.declared.entry.Entry.{Entry}
+use Rattle.world_log.specs.declared.entry.Entry.TheVariants as entry
+use Rattle.world_log.specs.declared.entry.Product.TheVariants.{Console, Uncaught, Rest, Stopped}
+use Rattle.world_log.specs.declared.entry.Stop.TheVariants.{Fuel, Cells, Places, Units}
 use Rattle.js_semantics.specs.Alone.{alone}
 
 -- the node with a number

@@ -1,7 +1,7 @@
 -- The transcript that one world makes by itself of its script and its deliveries, and the laws of it.
 use Rattle.std.specs.Prelude.{◌≡◌, ◌<◌, ◌+◌, ℕ, suc, List, ◌++◌, Option, Bool, nat_eq}
-use Rattle.js_semantics.specs.declared.entry.Entry.{Entry}
-use Rattle.js_semantics.specs.declared.entry.Mode.TheVariants.{Idle}
+use Rattle.world_log.specs.declared.entry.Entry.{Entry}
+use Rattle.js_semantics.specs.declared.mode.Mode.TheVariants.{Idle}
 use Rattle.js_semantics.specs.World.{World, limited}
 use Rattle.js_semantics.specs.Prog.{Over, Await, Enter, Request, Cont}
 use Rattle.js_semantics.specs.Realm.{realm_length}

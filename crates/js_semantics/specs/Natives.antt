@@ -11,7 +11,7 @@ use Rattle.world_heap.specs.declared.value.Value.TheVariants.{Undefined, Str, Re
 use Rattle.js_semantics.specs.declared.native.Native.{Native}
 use Rattle.js_semantics.specs.declared.native.Native.TheVariants.{Console, Error, Require}
 use Rattle.js_semantics.specs.declared.fault.Fault.TheVariants.{NotAFunction, WrongArgument}
-use Rattle.js_semantics.specs.declared.entry.Product.TheVariants as products
+use Rattle.world_log.specs.declared.entry.Product.TheVariants as products
 use Rattle.js_semantics.specs.World.{World}
 use Rattle.js_semantics.specs.declared.outcome.Outcome.TheVariants.{Thrown}
 use Rattle.js_semantics.specs.Prog.{Prog, End, Make, Read, give, throw, make_error, count_units}

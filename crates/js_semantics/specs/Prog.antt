@@ -10,11 +10,11 @@ use Rattle.world_heap.specs.declared.cell.Cell.TheVariants.{Error}
 use Rattle.world_heap.specs.Heaps.{places_of}
 use Rattle.js_semantics.specs.declared.fault.Fault.{Fault}
 use Rattle.js_semantics.specs.declared.fault.Fault.TheVariants.{TooLong}
-use Rattle.js_semantics.specs.declared.entry.Stop.{Stop}
-use Rattle.js_semantics.specs.declared.entry.Stop.TheVariants.{Cells, Units}
-use Rattle.js_semantics.specs.declared.entry.Mode.{Mode}
-use Rattle.js_semantics.specs.declared.entry.Product.{Product}
-use Rattle.js_semantics.specs.declared.entry.Product.TheVariants.{Stopped}
+use Rattle.world_log.specs.declared.entry.Stop.{Stop}
+use Rattle.world_log.specs.declared.entry.Stop.TheVariants.{Cells, Units}
+use Rattle.js_semantics.specs.declared.mode.Mode.{Mode}
+use Rattle.world_log.specs.declared.entry.Product.{Product}
+use Rattle.world_log.specs.declared.entry.Product.TheVariants.{Stopped}
 use Rattle.js_semantics.specs.declared.scope.Scope.{Scope}
 use Rattle.js_semantics.specs.declared.outcome.Outcome.{Outcome}
 use Rattle.js_semantics.specs.declared.outcome.Outcome.TheVariants.{Normal, Return, Break, Continue, Thrown}

@@ -3,14 +3,14 @@ use Rattle.std.specs.Prelude.{◌-◌, ℕ, zero, suc, List, [], ◌∷◌, leng
 use Rattle.world_kind.specs.declared.WorldKind.{WorldKind}
 use Rattle.world_heap.specs.Views.{Bounds}
 use Rattle.js_tree.specs.declared.node.Node as nodes
-use Rattle.js_semantics.specs.declared.entry.Delivery.{Delivery}
-use Rattle.js_semantics.specs.declared.entry.Delivery.TheVariants.{Load}
-use Rattle.js_semantics.specs.declared.entry.Entry.{Entry}
-use Rattle.js_semantics.specs.declared.entry.Entry.TheVariants as entry
-use Rattle.js_semantics.specs.declared.entry.Mode.{Mode}
-use Rattle.js_semantics.specs.declared.entry.Mode.TheVariants.{Idle, Crossing}
-use Rattle.js_semantics.specs.declared.entry.Product.TheVariants.{Uncaught, Rest, Stopped}
-use Rattle.js_semantics.specs.declared.entry.Stop.TheVariants.{Fuel, Places}
+use Rattle.world_log.specs.declared.entry.Delivery.{Delivery}
+use Rattle.world_log.specs.declared.entry.Delivery.TheVariants.{Load}
+use Rattle.world_log.specs.declared.entry.Entry.{Entry}
+use Rattle.world_log.specs.declared.entry.Entry.TheVariants as entry
+use Rattle.js_semantics.specs.declared.mode.Mode.{Mode}
+use Rattle.js_semantics.specs.declared.mode.Mode.TheVariants.{Idle, Crossing}
+use Rattle.world_log.specs.declared.entry.Product.TheVariants.{Uncaught, Rest, Stopped}
+use Rattle.world_log.specs.declared.entry.Stop.TheVariants.{Fuel, Places}
 use Rattle.js_semantics.specs.World.{World}
 use Rattle.js_semantics.specs.declared.outcome.Outcome.{Outcome}
 use Rattle.js_semantics.specs.declared.outcome.Outcome.TheVariants.{Thrown}

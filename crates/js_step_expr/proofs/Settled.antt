@@ -7,8 +7,8 @@ use Rattle.world_heap.specs.declared.value.Value.TheVariants.{Str}
 use Rattle.js_tree.specs.declared.node.Node.{Node}
 use Rattle.js_semantics.specs.declared.fault.Fault.TheVariants.{TooLong}
 use Rattle.js_semantics.specs.declared.fault.StepFault.{StepFault}
-use Rattle.js_semantics.specs.declared.entry.Product.TheVariants.{Stopped}
-use Rattle.js_semantics.specs.declared.entry.Stop.TheVariants.{Units}
+use Rattle.world_log.specs.declared.entry.Product.TheVariants.{Stopped}
+use Rattle.world_log.specs.declared.entry.Stop.TheVariants.{Units}
 use Rattle.js_semantics.specs.Prog.{Prog, count_units, make_text, throw}
 use Rattle.js_semantics.specs.Operators.{Is}
 use Rattle.js_semantics.specs.Expressions.{compute}

@@ -10,8 +10,8 @@ use Rattle.js_tree.specs.declared.node.Node.TheVariants as kinds
 use Rattle.js_semantics.specs.declared.fault.Fault.TheVariants.{NotDefined}
 use Rattle.js_semantics.specs.declared.scope.Scope.{Scope}
 use Rattle.js_semantics.specs.World.{World}
-use Rattle.js_semantics.specs.declared.entry.Product.TheVariants.{Stopped}
-use Rattle.js_semantics.specs.declared.entry.Stop.TheVariants.{Fuel}
+use Rattle.world_log.specs.declared.entry.Product.TheVariants.{Stopped}
+use Rattle.world_log.specs.declared.entry.Stop.TheVariants.{Fuel}
 use Rattle.js_semantics.specs.Prog.{Prog, Read, Step, eval, step, give, throw}
 use Rattle.js_semantics.specs.Access.{delete, get, read_name, set, write_name}
 use Rattle.js_semantics.specs.Expressions.{assign_by, assign_to, assign_with, delete_target, give_type, type_of_node, update_target, updated}

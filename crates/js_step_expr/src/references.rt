@@ -16,9 +16,10 @@ use crate::types::{row_delete_value, row_typeof_value};
 use js_machine::{
     AfterFrame, Frame, Next, OperandFrame, Place, PropertyFrame, State, Use, ValueFrame, stopped,
 };
-use js_semantics::{Fault, Scope, StepFault, Stop};
+use js_semantics::{Fault, Scope, StepFault};
 use js_tree::{BinaryOperator, NodeId, Tree, UpdateOperator};
 use world_heap::Loc;
+use world_log::Stop;
 
 // Enters the object of a property that is named by a node.
 fn enter_object(

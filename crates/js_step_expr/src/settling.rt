@@ -10,9 +10,10 @@ ghost use Rattle.js_step_expr.specs.Settling.{Settles};
 
 use js_machine::{Next, State, stopped};
 use js_operators::Answer;
-use js_semantics::{Outcome, StepFault, Stop};
+use js_semantics::{Outcome, StepFault};
 use wl_text::Units;
 use world_heap::Value;
+use world_log::Stop;
 
 /// Makes a text: its units are counted, or the world stops where they would pass the limit.
 pub fn make_text(state: &mut State, text: Units) -> Result<Value, Next>

@@ -17,8 +17,8 @@ use Rattle.world_heap.specs.Growth.{grown}
 use Rattle.proto_props.specs.declared.outcome.SetDone.{SetDone}
 use Rattle.proto_props.specs.Changes.{Rewriting, Extending}
 use Rattle.js_semantics.specs.declared.fault.Fault.TheVariants.{ReadOnly}
-use Rattle.js_semantics.specs.declared.entry.Product.TheVariants.{Stopped}
-use Rattle.js_semantics.specs.declared.entry.Stop.TheVariants.{Places}
+use Rattle.world_log.specs.declared.entry.Product.TheVariants.{Stopped}
+use Rattle.world_log.specs.declared.entry.Stop.TheVariants.{Places}
 use Rattle.js_semantics.specs.World.{with_cell}
 use Rattle.js_semantics.specs.Properties.{with_property, places_for, defined_at, defined_in, define_step}
 use Rattle.js_semantics.specs.Prog.{Prog, change, count_places, throw}

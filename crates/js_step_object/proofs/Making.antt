@@ -9,8 +9,8 @@ use Rattle.world_heap.specs.declared.builtin.BuiltIn.TheVariants.{ArrayPrototype
 use Rattle.world_heap.specs.declared.cell.Cell.{Cell}
 use Rattle.world_heap.specs.declared.cell.Cell.TheVariants.{Array, Object, Closure}
 use Rattle.world_heap.specs.Heaps.{units_of}
-use Rattle.js_semantics.specs.declared.entry.Product.TheVariants.{Stopped}
-use Rattle.js_semantics.specs.declared.entry.Stop.{Stop}
+use Rattle.world_log.specs.declared.entry.Product.TheVariants.{Stopped}
+use Rattle.world_log.specs.declared.entry.Stop.{Stop}
 use Rattle.js_semantics.specs.World.{World, built_in}
 use Rattle.js_semantics.specs.Prog.{Prog, Read, alloc}
 use Rattle.js_semantics.specs.Access.{define, make_array}

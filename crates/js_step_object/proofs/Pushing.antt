@@ -15,8 +15,8 @@ use Rattle.proto_props.specs.declared.outcome.SetDone.{SetDone}
 use Rattle.proto_props.specs.Adds.{IsOpenArray}
 use Rattle.proto_props.specs.Changes.{Extending}
 use Rattle.js_semantics.specs.declared.scope.Scope.{Scope}
-use Rattle.js_semantics.specs.declared.entry.Product.TheVariants.{Stopped}
-use Rattle.js_semantics.specs.declared.entry.Stop.TheVariants.{Places}
+use Rattle.world_log.specs.declared.entry.Product.TheVariants.{Stopped}
+use Rattle.world_log.specs.declared.entry.Stop.TheVariants.{Places}
 use Rattle.js_semantics.specs.World.{cell_at}
 use Rattle.js_semantics.specs.Prog.{Prog, Read, change, eval, step}
 use Rattle.js_semantics.specs.Iteration.{items_at, push_item, pushed, values_of, walk_value}

@@ -11,8 +11,8 @@ use Rattle.world_heap.specs.Growth.{first_passed, grown}
 use Rattle.js_semantics.specs.World.{World, with_cell}
 use Rattle.js_semantics.specs.Prog.{Prog, bind, change, count_places}
 use Rattle.js_semantics.specs.Run.{receive, run}
-use Rattle.js_semantics.specs.declared.entry.Product.TheVariants.{Stopped}
-use Rattle.js_semantics.specs.declared.entry.Stop.TheVariants.{Places}
+use Rattle.world_log.specs.declared.entry.Product.TheVariants.{Stopped}
+use Rattle.world_log.specs.declared.entry.Stop.TheVariants.{Places}
 use Rattle.js_semantics.proofs.Programs.{count_bind, place_none, places_some}
 use Rattle.js_machine.specs.declared.state.State.{State}
 use Rattle.js_machine.specs.declared.state.Control.TheVariants as controls

@@ -9,10 +9,11 @@ ghost use Rattle.world_heap.specs.Table.{found_under};
 ghost use Rattle.js_step_object.specs.Defining.{Defines, body_at};
 
 use js_machine::{Control, Next, State, is_fit, is_prototype, stopped};
-use js_semantics::{Fault, StepFault, Stop};
+use js_semantics::{Fault, StepFault};
 use proto_props::{add_property, put_property};
 use wl_text::Units;
 use world_heap::{Heap, HeapFault, Loc, Property, body};
+use world_log::Stop;
 
 /// Lets a value go. A generic function keeps the cases of its drop out of its callers' proofs.
 pub fn discard<T: Drop>(_value: T) {}

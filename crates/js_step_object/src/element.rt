@@ -18,11 +18,12 @@ use crate::functions::Making;
 use crate::lists::{copy_scope, items_of, next_of, node_at};
 use crate::member::literal;
 use js_machine::{Control, LiteralFrame, Next, State, is_fit, stopped};
-use js_semantics::{Outcome, Scope, StepFault, Stop};
+use js_semantics::{Outcome, Scope, StepFault};
 use js_tree::{Node, NodeId, Tree};
 use proto_props::push_item;
 use sqlite_items::Items;
 use world_heap::{Cell, Heap, HeapFault, Loc, Value};
+use world_log::Stop;
 
 // Whether a cell is an array that isn't frozen.
 fn is_open_array(cell: &Cell) -> bool

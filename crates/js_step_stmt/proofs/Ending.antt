@@ -1,8 +1,8 @@
 -- The end of a task, and what is told of an uncaught value.
 use Rattle.std.proofs.Common.{◌≡◌, ◌+◌, ◌*◌, List, [], ◌∷◌, sym, ap, ◌∙◌, arith}
 use Rattle.js_tree.specs.declared.node.Node.{Node}
-use Rattle.js_semantics.specs.declared.entry.Mode.{Mode}
-use Rattle.js_semantics.specs.declared.entry.Product.{Product}
+use Rattle.js_semantics.specs.declared.mode.Mode.{Mode}
+use Rattle.world_log.specs.declared.entry.Product.{Product}
 use Rattle.js_semantics.specs.Prog.{Make}
 use Rattle.js_semantics.specs.Run.{at_rest, run}
 use Rattle.js_machine.specs.declared.state.State.{State}

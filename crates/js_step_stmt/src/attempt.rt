@@ -13,10 +13,11 @@ use crate::environments::{inside, pattern_bindings};
 use crate::lists::copy_scope;
 use crate::simple::statement;
 use js_machine::{Control, Frame, Next, State, StatementFrame, stopped};
-use js_semantics::{Outcome, Scope, StepFault, Stop};
+use js_semantics::{Outcome, Scope, StepFault};
 use js_tree::{NodeId, Tree};
 use sqlite_items::Items;
 use world_heap::{Binding, Value};
+use world_log::Stop;
 
 // Enters a node for a step, under two frames.
 fn enter_under(

@@ -1,8 +1,8 @@
 //! The end of a script (ECMA-262, 16.1.6: ScriptEvaluation).
 ghost use Rattle.std.specs.Prelude.{◌≡◌, ◌∷◌, [], ℕ, List, IfOk, length};
 ghost use Rattle.js_tree.specs.declared.node.Node as kind;
-ghost use Rattle.js_semantics.specs.declared.entry.Mode.TheVariants.{Idle};
-ghost use Rattle.js_semantics.specs.declared.entry.Product.TheVariants.{Uncaught};
+ghost use Rattle.js_semantics.specs.declared.mode.Mode.TheVariants.{Idle};
+ghost use Rattle.world_log.specs.declared.entry.Product.TheVariants.{Uncaught};
 ghost use Rattle.js_semantics.specs.Display.{line_of};
 ghost use Rattle.js_semantics.specs.Prog.{Make, count_units};
 ghost use Rattle.js_semantics.specs.Run.{at_rest};
@@ -11,9 +11,10 @@ ghost use Rattle.js_machine.specs.Frames.{rest};
 
 use js_display::line_of;
 use js_machine::{Control, Frame, Next, State, stopped};
-use js_semantics::{Mode, Outcome, Product, StepFault, Stop};
+use js_semantics::{Mode, Outcome, StepFault};
 use wl_text::Units;
 use world_heap::Value;
+use world_log::{Product, Stop};
 
 // The task is done.
 fn rested(state: &mut State) -> Result<Next, StepFault>

@@ -157,13 +157,19 @@ impl Heap {
         Ok(())
     }
 
-    /// The location of a built-in cell. It takes no memory.
+    /// The location of the cell at a place, in the order in which cells were added; none past the last one. It takes no
+    /// memory, and constant time.
+    pub fn location(&self, place: usize) -> Option<Loc>
+        ensures { result ≡ slice_get (keys self.now.cells) place }
+    {
+        self.store.location(self.owner, place).map(Loc::of)
+    }
+
+    /// The location of a built-in cell. It takes no memory, and constant time.
     pub fn built_in(&self, built_in: BuiltIn) -> Option<Loc>
         ensures { result ≡ slice_get (keys self.now.cells) (place_of built_in) }
     {
-        self.store
-            .location(self.owner, place_number(built_in))
-            .map(Loc::of)
+        self.location(place_number(built_in))
     }
 
     /// Adds a cell, and counts it and its places and units.

@@ -10,7 +10,9 @@ use Rattle.world_log.specs.declared.entry.Level.TheVariants.{Log, Info, Warn, Er
 use Rattle.world_log.specs.declared.entry.Delivery.{Delivery}
 use Rattle.world_log.specs.declared.entry.Delivery.TheVariants.{Load}
 use Rattle.world_log.specs.declared.entry.Product.{Product}
-use Rattle.world_log.specs.declared.entry.Product.TheVariants.{Console, Rest}
+use Rattle.world_log.specs.declared.entry.Product.TheVariants.{Console, Uncaught, Rest, Stopped}
+use Rattle.world_log.specs.declared.entry.Stop.{Stop}
+use Rattle.world_log.specs.declared.entry.Stop.TheVariants.{Fuel, Cells, Places, Units}
 use Rattle.world_log.specs.declared.entry.Entry.{Entry}
 use Rattle.world_log.specs.declared.entry.Entry.TheVariants as entries
 use Rattle.world_log.specs.declared.entry.LogItem.{LogItem}
@@ -36,6 +38,12 @@ level_word Info = codes "info"
 level_word Warn = codes "warn"
 level_word Error = codes "error"
 
+abbrev pub stop_word : Stop → List ℕ
+stop_word Fuel = codes "fuel"
+stop_word Cells = codes "cells"
+stop_word Places = codes "places"
+stop_word Units = codes "units"
+
 -- the word of a delivery and its values
 abbrev pub delivery_words : Delivery → List ℕ
 delivery_words Load = codes "load"
@@ -43,7 +51,9 @@ delivery_words Load = codes "load"
 -- the word of a product and its values
 abbrev pub product_words : Product → List ℕ
 product_words (Console level text) = codes "console " ++ (level_word level ++ (32 ∷ quoted text))
+product_words (Uncaught text) = codes "uncaught " ++ quoted text
 product_words (Rest jobs) = codes "rest " ++ decimal jobs
+product_words (Stopped stop) = codes "stopped " ++ stop_word stop
 
 -- the arrow, the word and its values, each after a space
 unfoldable pub entry_words : Entry → List ℕ

@@ -35,10 +35,19 @@ pub enum Level {
 }
 
 /// What is delivered to a world.
-#[derive(Drop)]
+#[derive(Debug, Drop, Clone, Copy, PartialEq, Eq)]
 pub enum Delivery {
     /// The world's script is to run.
     Load,
+}
+
+/// The count that would have passed its limit when a world stopped: steps, cells, places, or units of texts.
+#[derive(Debug, Drop, Clone, Copy, PartialEq, Eq)]
+pub enum Stop {
+    Fuel,
+    Cells,
+    Places,
+    Units,
 }
 
 /// What a world makes.
@@ -46,11 +55,16 @@ pub enum Delivery {
 pub enum Product {
     /// A line of the console.
     Console(Level, Units),
+    /// The display of a thrown value that nothing caught.
+    Uncaught(Units),
     /// The world has nothing more to do now; this many jobs wait.
     Rest(u64),
+    /// The world has stopped for good.
+    Stopped(Stop),
 }
 
-/// An entry of one world: a delivery, `fresh` where it is the first to that world in its task, or a product.
+/// An entry of one world: a delivery, `fresh` where it is the first to that world in its task and fills its steps, or a
+/// product.
 #[derive(Drop)]
 pub enum Entry {
     Delivery { fresh: bool, what: Delivery },

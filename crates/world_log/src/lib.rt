@@ -4,5 +4,5 @@
 mod entry;
 mod printing;
 
-pub use entry::{Delivery, Entry, Level, LogItem, Product, WorldName};
+pub use entry::{Delivery, Entry, Level, LogItem, Product, Stop, WorldName};
 pub use printing::print;

@@ -1,9 +1,11 @@
 //! How an item of the log is printed.
 ghost use Rattle.std.specs.Prelude.{◌≡◌, ◌++◌, IfOk, OnOk};
-ghost use Rattle.world_log.specs.Print.{printed, named, entry_words, delivery_words, product_words, level_word};
+ghost use Rattle.wl_text.specs.Text.{quoted};
+ghost use Rattle.world_log.specs.Print.{printed, named, entry_words, delivery_words, product_words, level_word, stop_word};
 
-use crate::entry::{Delivery, Entry, Level, LogItem, Product, WorldName};
+use crate::entry::{Delivery, Entry, Level, LogItem, Product, Stop, WorldName};
 use std::alloc::{AllocError, Global};
+use wl_text::Units;
 use world_kind::WorldKind;
 
 /// The line of an item, with its line feed. It takes time and memory linear in the line.
@@ -79,13 +81,29 @@ fn push_product(alloc: Global, line: &mut Vec<u8>, what: &Product) -> Result<(),
             line.extend_from_slice(b"console ")?;
             line.extend_from_slice(word_of(*level).as_bytes())?;
             line.push(b' ')?;
-            line.extend_from_slice(text.quoted(alloc)?.as_slice())?;
+            push_text(alloc, line, text)?;
+        }
+        Product::Uncaught(text) => {
+            line.extend_from_slice(b"uncaught ")?;
+            push_text(alloc, line, text)?;
         }
         Product::Rest(jobs) => {
             let text = format!(in alloc; "rest {jobs}")?;
             line.extend_from_slice(text.as_bytes())?;
         }
+        Product::Stopped(stop) => {
+            line.extend_from_slice(b"stopped ")?;
+            line.extend_from_slice(stop_of(*stop).as_bytes())?;
+        }
     }
+    Ok(())
+}
+
+// A text in quotes.
+fn push_text(alloc: Global, line: &mut Vec<u8>, text: &Units) -> Result<(), AllocError>
+    ensures { OnOk result (line.new.items ≡ line.old.items ++ quoted text.now) }
+{
+    line.extend_from_slice(text.quoted(alloc)?.as_slice())?;
     Ok(())
 }
 
@@ -98,5 +116,17 @@ fn word_of(level: Level) -> &'static str
         Level::Info => "info",
         Level::Warn => "warn",
         Level::Error => "error",
+    }
+}
+
+// The word of the count that a world stopped at.
+fn stop_of(stop: Stop) -> &'static str
+    ensures { result.now ≡ stop_word stop }
+{
+    match stop {
+        Stop::Fuel => "fuel",
+        Stop::Cells => "cells",
+        Stop::Places => "places",
+        Stop::Units => "units",
     }
 }

@@ -1,6 +1,6 @@
 use Rattle.std.proofs.Common.{arith}
 use Rattle.world_heap.specs.declared.value.Value.TheVariants.{Undefined}
-use Rattle.js_semantics.specs.declared.entry.Product.TheVariants.{Console}
+use Rattle.world_log.specs.declared.entry.Product.TheVariants.{Console}
 use Rattle.js_semantics.specs.declared.outcome.Outcome.TheVariants.{Normal}
 use Rattle.js_natives.proofs.Making.{does_tell}
 use Rattle.js_natives.proofs.console.told.Goals as goal

@@ -1,5 +1,5 @@
 use Rattle.js_step_stmt.proofs.Ending.{does_rest}
-use Rattle.js_semantics.specs.declared.entry.Mode.TheVariants.{Idle}
+use Rattle.js_semantics.specs.declared.mode.Mode.TheVariants.{Idle}
 use Rattle.js_step_stmt.proofs.script.rested.Goals as goal
 
 pub returns : goal.returns

@@ -1,6 +1,6 @@
 use Rattle.js_step_stmt.proofs.Ending.{does_tell}
-use Rattle.js_semantics.specs.declared.entry.Mode.TheVariants.{Idle}
-use Rattle.js_semantics.specs.declared.entry.Product.TheVariants.{Uncaught}
+use Rattle.js_semantics.specs.declared.mode.Mode.TheVariants.{Idle}
+use Rattle.world_log.specs.declared.entry.Product.TheVariants.{Uncaught}
 use Rattle.js_step_stmt.proofs.script.told.Goals as goal
 
 pub returns : goal.returns

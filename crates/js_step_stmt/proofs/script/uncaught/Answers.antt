@@ -1,7 +1,7 @@
 use Rattle.std.proofs.Common.{sym, ap}
 use Rattle.js_machine.proofs.Doing.{does_read_ok}
-use Rattle.js_semantics.specs.declared.entry.Mode.TheVariants.{Idle}
-use Rattle.js_semantics.specs.declared.entry.Product.TheVariants.{Uncaught}
+use Rattle.js_semantics.specs.declared.mode.Mode.TheVariants.{Idle}
+use Rattle.world_log.specs.declared.entry.Product.TheVariants.{Uncaught}
 use Rattle.js_semantics.specs.Prog.{count_units, Make}
 use Rattle.js_semantics.specs.Run.{at_rest}
 use Rattle.js_machine.specs.Does.{world_of}

@@ -1,5 +1,5 @@
 use Rattle.std.proofs.Common.{refl, false}
-use Rattle.js_semantics.specs.declared.entry.Mode.TheVariants.{Idle}
+use Rattle.js_semantics.specs.declared.mode.Mode.TheVariants.{Idle}
 use Rattle.js_machine.specs.declared.state.Control.TheVariants.{Wait}
 use Rattle.js_machine.specs.declared.state.State.{State}
 use Rattle.js_machine.proofs.Receiving.{fresh_alone}
