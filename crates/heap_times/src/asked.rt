@@ -40,7 +40,7 @@ fn kind_in(word: &str) -> Option<Kind>
 }
 
 /// What the words ask for: a kind of work, how many cells or keys stand, and how often it is done.
-pub fn asked_by(words: &[String]) -> Option<Asked> {
+pub(crate) fn asked_by(words: &[String]) -> Option<Asked> {
     let [kind, size, count] = words else {
         return None;
     };

@@ -172,7 +172,7 @@ fn end(alloc: Global, size: u32, count: u32) -> Result<u64, Failure> {
 ///
 /// # Errors
 /// Memory ran out, or a count of a heap would pass its limit.
-pub fn work(alloc: Global, asked: Asked) -> Result<u64, Failure> {
+pub(crate) fn work(alloc: Global, asked: Asked) -> Result<u64, Failure> {
     match asked.kind {
         Kind::Add => add(alloc, asked.size, asked.count),
         Kind::Read => read(alloc, asked.size, asked.count),

@@ -40,7 +40,8 @@ fn look(cell: &Cell, name: &Units) -> Seen
     }
 }
 
-// The place of a name in an environment.
+/// The place of a name among the bindings of an environment record (ECMA-262, 9.1.1); none where the location is that of
+/// no environment, or the environment doesn't bind the name. The cost is linear in the environment's bindings.
 pub fn place_at(heap: &Heap, env: Loc, name: &Units) -> Option<usize>
     ensures is { result ≡ place_under (find nat_eq heap.now.cells env) name.now }
     ensures well { IsWell nat_eq heap.now.cells }

@@ -233,7 +233,7 @@ fn show_operation(alloc: Global, node: &Node) -> Shown {
 }
 
 /// The nodes in their order, each as its place and what it is, with `; ` behind it.
-pub fn shown(alloc: Global, tree: &Tree) -> Shown {
+pub(crate) fn shown(alloc: Global, tree: &Tree) -> Shown {
     let mut all = String::new(alloc);
     for at in 0..tree.len() {
         let id = NodeId(at);

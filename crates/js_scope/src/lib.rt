@@ -4,9 +4,19 @@
 mod check;
 mod children;
 mod fault;
+#[cfg(test)]
+mod jump_rows;
+#[cfg(test)]
+mod name_rows;
 mod names;
 mod place;
 mod rules;
+#[cfg(test)]
+mod scope_rows;
+#[cfg(test)]
+mod target_rows;
+#[cfg(test)]
+mod test_trees;
 #[cfg(test)]
 mod tests;
 
