@@ -1,1 +1,1 @@
-mod Binding
+mod Destructuring

@@ -13,7 +13,7 @@ ghost use Rattle.js_patterns.specs.Nullish.{is_nullish};
 use crate::entries::entry_at;
 use js_calls::{copy_scope, get};
 use js_machine::{AfterFrame, Frame, Next, PatternFrame, State, ValueFrame};
-use js_semantics::{Fault, Scope, StepFault};
+use js_semantics::{Fault, Outcome, Scope, StepFault};
 use js_step_stmt::done;
 use js_tree::{BindProperty, NodeId, Tree};
 use std::alloc::Global;
@@ -195,7 +195,7 @@ pub fn after_property_read(
             discard(of);
             discard(scope);
             discard(value);
-            done(state)
+            state.give(Outcome::Normal(Value::Undefined))
         }
     }
 }

@@ -4,7 +4,6 @@ use Rattle.std.specs.Prelude.{option_map}
 use Rattle.std.specs.Option.{option_and_then}
 use Rattle.world_heap.specs.declared.value.Value.{Value}
 use Rattle.world_heap.specs.declared.value.Value.TheVariants.{Bool as Boolean}
-use Rattle.world_heap.specs.declared.cell.Cell.{Cell}
 use Rattle.world_heap.specs.Heaps.{proto_of}
 use Rattle.world_heap.specs.Maps.{find}
 use Rattle.world_heap.specs.Views.{HeapView}
@@ -34,7 +33,7 @@ module _ (heap : HeapView) (w : World ℕ) (n target at : ℕ) where
   above_next proto is differs = rw (is, differs) refl
 
 -- what follows, by what is told of the chain
-told_by : (Value ℕ → Prog ℕ) → Option Bool → Prog ℕ
+abbrev told_by : (Value ℕ → Prog ℕ) → Option Bool → Prog ℕ
 told_by k o = elim o [ Some told ↦ k (Boolean told) | None ↦ throw NotAnObject ]
 
 target_by : (k : Value ℕ → Prog ℕ) (x : Value ℕ) (w : World ℕ) (o : Option ℕ) → (elim o [ Some target ↦ k (Boolean (inherits (object_of x w) target w)) | None ↦ throw NotAnObject ]) ≡ told_by k (option_map (λ target. inherits (object_of x w) target w) o)

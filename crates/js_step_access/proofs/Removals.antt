@@ -74,7 +74,7 @@ unfolding delete_step
 unit_ok nodes text key kept old new r is h = delete_ok nodes (Str text) key (removed (not kept)) old new r (λ w. rw is (kept_by (is_length key) (text_unit text key))) h
 
 -- a deletion is what becomes of the cells, and of the property
-Agrees : List (ℕ × Cell ℕ) → Deletion ℕ → Bool → List (ℕ × Cell ℕ) → Type 0
+abbrev Agrees : List (ℕ × Cell ℕ) → Deletion ℕ → Bool → List (ℕ × Cell ℕ) → Type 0
 Agrees cells Leaves gone cs = (gone ≡ true) × (cs ≡ cells)
 Agrees cells Keeps gone cs = (gone ≡ false) × (cs ≡ cells)
 Agrees cells (Removes loc cell) gone cs = (gone ≡ true) × (cs ≡ put nat_eq cells loc cell)

@@ -1,4 +1,4 @@
-//! Which objects are on a chain of prototypes (ECMA-262, 7.3.21: OrdinaryHasInstance).
+//! Which objects are on a chain of prototypes (ECMA-262, 7.3.22: OrdinaryHasInstance).
 ghost use Rattle.std.specs.Prelude.{◌≡◌, ℕ, length, nat_eq, Some};
 ghost use Rattle.std.specs.Option.{option_and_then};
 ghost use Rattle.world_heap.specs.Heaps.{proto_of};

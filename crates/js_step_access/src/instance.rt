@@ -60,11 +60,7 @@ fn prototype_key(alloc: Global) -> Result<Units, StepFault>
 
 /// `instanceof` with the `prototype` of its right side: whether that is on the chain of prototypes above the left side. A
 /// `prototype` that is no object is the error `NotAnObject`. The cost is linear in the chain.
-pub fn after_instance(
-    state: &mut State,
-    left: Value,
-    prototype: Value,
-) -> Result<Next, StepFault>
+pub fn after_instance(state: &mut State, left: Value, prototype: Value) -> Result<Next, StepFault>
     ensures { (nodes : List kind.Node) → IfOk result (λ next. Does nodes 4 (after_rest nodes (AfterFrame.Instance left) prototype) state.old state.new next) }
 {
     match instance_in(&state.heap, &left, &prototype) {

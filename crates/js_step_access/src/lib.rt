@@ -21,7 +21,7 @@ pub use finishing::finish;
 pub use instance::{after_assign_instance, after_instance, instance_of};
 pub use keys::{copy_key, key_units, name_at};
 pub use naming::{read_name, row_name};
-pub use rows::{operand, property, row_assign_with, row_typeof, row_update};
 pub use removal::delete;
+pub use rows::{operand, property, row_assign_with, row_typeof, row_update};
 pub use usage::use_property;
 pub use writing::write_place;
