@@ -34,3 +34,7 @@ AreItems tokens rest items = Spells language (Derives language nesting) (any ite
 abbrev pub ParsesDerived : Type 0
 ParsesDerived = (tokens : List Token) (nodes : Nodes) → parsed tokens ≡ Ok nodes
     → (items : Tree Token) × (rest : List Token) × AreItems tokens rest items × (symbol_of rest ≡ s.End) × (nodes ≡ script_nodes (place_at tokens) items)
+
+-- What is a script by its rules is parsed, to the nodes of its derivation.
+abbrev pub ParsesScripts : Type 0
+ParsesScripts = (tokens : List Token) (tree : Tree Token) → IsScript tokens tree → parsed tokens ≡ Ok (nodes_of nesting tree)
