@@ -26,4 +26,5 @@ pub mod Kinded
 pub mod Kindred
 pub mod Followed
 pub mod Scripts
+pub mod Texts
 pub mod Rows
