@@ -1,13 +1,12 @@
 -- What is next, as the request that is entered.
-use Rattle.std.proofs.Common.{◌≡◌, ℕ, List, IfOk, Result, Option, Some, None, refl, sym, ap, ◌∙◌, arith}
+use Rattle.std.proofs.Common.{◌≡◌, ℕ, List, IfOk, Result, Option, refl, sym, ap, ◌∙◌, arith}
 use Rattle.std.specs.Prelude.{slice_get}
 use Rattle.js_tree.specs.declared.node.NodeId.{NodeId}
 use Rattle.js_tree.specs.declared.node.Node.{Node}
 use Rattle.world_heap.specs.declared.value.Value.{Value}
 use Rattle.js_semantics.specs.declared.fault.StepFault.{StepFault}
 use Rattle.js_semantics.specs.declared.scope.Scope.{Scope}
-use Rattle.js_semantics.specs.declared.outcome.Outcome.{Outcome}
-use Rattle.js_semantics.specs.Prog.{Request, Script, Node as NodeRequest, Bind, Member, Native}
+use Rattle.js_semantics.specs.Prog.{Script, Node as NodeRequest, Bind, Member, Native}
 use Rattle.js_semantics.specs.Rows.{row, row_of}
 use Rattle.js_semantics.specs.Objects.{member_of}
 use Rattle.js_semantics.specs.Statements.{script_of}
@@ -15,7 +14,7 @@ use Rattle.js_machine.specs.declared.state.State.{State}
 use Rattle.js_machine.specs.declared.state.Control.{Control}
 use Rattle.js_machine.specs.declared.state.Control.TheVariants as controls
 use Rattle.js_machine.specs.declared.state.Next.{Next}
-use Rattle.js_machine.specs.Does.{Does, IsEntered, Steps}
+use Rattle.js_machine.specs.Does.{Does, Steps}
 use Rattle.js_machine.proofs.Doing.{does_read_ok}
 use Rattle.js_machine.proofs.Stepping.{ran_ok}
 

@@ -1,5 +1,5 @@
 -- What is no value passes a frame that goes on only with one.
-use Rattle.std.proofs.Common.{◌≡◌, ◌≢◌, ℕ, ◌+◌, ◌≤◌, List, IfOk, Result, refl, arith}
+use Rattle.std.proofs.Common.{◌≢◌, ℕ, ◌+◌, ◌≤◌, List, IfOk, Result, refl, arith}
 use Rattle.js_tree.specs.declared.node.Node.{Node}
 use Rattle.world_heap.specs.declared.value.Value.{Value}
 use Rattle.js_semantics.specs.declared.fault.StepFault.{StepFault}

@@ -1,5 +1,5 @@
 -- Turns, one after another.
-use Rattle.std.proofs.Common.{◌≡◌, ℕ, List, [], ◌∷◌, ◌++◌, false, append_assoc, append-nil, IfOk, Result, refl, sym, ap, ◌∙◌}
+use Rattle.std.proofs.Common.{◌≡◌, ℕ, List, [], ◌∷◌, ◌++◌, false, append_assoc, append-nil, refl, sym, ap, ◌∙◌}
 use Rattle.js_tree.specs.declared.node.Node.{Node}
 use Rattle.world_heap.specs.Views.{HeapView}
 use Rattle.world_log.specs.declared.entry.Entry.TheVariants as entry

@@ -1,5 +1,5 @@
 -- The groups that rows and frames are told apart by.
-use Rattle.std.specs.Prelude.{Bool, true, false, ℕ}
+use Rattle.std.specs.Prelude.{Bool, true, false}
 use Rattle.js_tree.specs.declared.node.Node.{Node}
 use Rattle.js_tree.specs.declared.node.Node.TheVariants as kinds
 

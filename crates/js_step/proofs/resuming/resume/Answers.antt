@@ -1,5 +1,5 @@
 use Rattle.js_names.specs.Patterns.{nodes_of}
-use Rattle.js_step.proofs.Turns.{begins, comes_to_rest, goes_on}
+use Rattle.js_step.proofs.Turns.{begins, goes_on}
 use Rattle.js_step.proofs.resuming.resume.Goals as goal
 
 pub turns-init : goal.turns-init
