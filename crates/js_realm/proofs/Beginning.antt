@@ -1,5 +1,5 @@
 -- The built-in cells without their members: those of a new heap, and then the others.
-use Rattle.std.proofs.Common.{◌≡◌, ℕ, ◌+◌, ◌<◌, true, List, [], ◌∷◌, ◌++◌, length, get_or, Some, None, refl, sym, ap, ◌∙◌, arith, length-append}
+use Rattle.std.proofs.Common.{◌≡◌, ℕ, ◌+◌, ◌<◌, true, List, [], ◌∷◌, ◌++◌, length, get_or, Some, None, refl, sym, ap, ◌∙◌, arith}
 use Rattle.std.specs.Prelude.{replicate}
 use Rattle.std.proofs.lemmas.List.{get_or_append_left}
 use Rattle.world_kind.specs.declared.WorldKind.{WorldKind}
@@ -7,7 +7,7 @@ use Rattle.world_kind.specs.declared.WorldKind.TheVariants.{Main, Preload, Page}
 use Rattle.world_heap.specs.declared.cell.Cell.{Cell}
 use Rattle.world_heap.specs.BuiltIns.{plain_object, objects}
 use Rattle.world_heap.specs.Maps.{keys}
-use Rattle.world_heap.specs.Starting.{IsNew, empty_heap, with_built_in}
+use Rattle.world_heap.specs.Starting.{IsNew}
 use Rattle.world_heap.specs.Views.{Bounds, HeapView, PoolView}
 use Rattle.js_semantics.specs.Realm.{realm_cells, realm_length}
 use Rattle.js_realm.specs.Building.{Adds, IsBare, bare_cells, contents, later_cells}

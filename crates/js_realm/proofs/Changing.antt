@@ -1,14 +1,14 @@
 -- Members that are put one after another, and cells that are filled one after another.
-use Rattle.std.proofs.Common.{◌≡◌, ℕ, zero, suc, ◌<◌, true, false, if◌then◌else◌, List, [], ◌∷◌, length, get_or, nat_eq, Some, Option, None, refl, sym, ap, ◌∙◌, subst, arith}
+use Rattle.std.proofs.Common.{◌≡◌, ℕ, ◌<◌, true, false, if◌then◌else◌, List, [], ◌∷◌, length, get_or, nat_eq, Some, refl, sym, ap, ◌∙◌, subst, arith}
 use Rattle.std.specs.Cmp.Lexicographic.{pointwise}
 use Rattle.std.specs.Option.{option_and_then}
 use Rattle.world_heap.specs.declared.value.Property.{Property}
 use Rattle.world_heap.specs.declared.cell.Body.{Body}
 use Rattle.world_heap.specs.declared.cell.Cell.{Cell}
-use Rattle.world_heap.specs.Bodies.{body_of, rebodied, HasBody}
+use Rattle.world_heap.specs.Bodies.{body_of, rebodied}
 use Rattle.world_heap.specs.Heaps.{Fits, IsCell, IsNoEnv, IsWell, IsWithin}
 use Rattle.world_heap.specs.Maps.{keys, find, Stands}
-use Rattle.world_heap.specs.Over.{ListOver, PropertyOver, BodyOver, list_more, property_more}
+use Rattle.world_heap.specs.Over.{PropertyOver, BodyOver, list_more, property_more}
 use Rattle.world_heap.specs.Table.{put_under}
 use Rattle.world_heap.specs.Views.{HeapView}
 use Rattle.world_heap.proofs.Bodying.{fits_body, well_rebody}

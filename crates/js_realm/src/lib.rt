@@ -9,3 +9,6 @@ mod realm;
 mod tables;
 
 pub use realm::{first_state, new_realm};
+
+#[cfg(test)]
+mod tests;

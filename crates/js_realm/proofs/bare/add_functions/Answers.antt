@@ -1,5 +1,4 @@
-use Rattle.std.proofs.Common.{ℕ, Some, arith}
-use Rattle.world_heap.specs.BuiltIns.{plain_object}
+use Rattle.std.proofs.Common.{arith}
 use Rattle.js_realm.specs.Building.{bare_function, numbered}
 use Rattle.js_realm.proofs.Adding.{base_after, length-numbered}
 use Rattle.js_realm.proofs.bare.add_functions.Goals as goal

@@ -1,5 +1,3 @@
-use Rattle.std.proofs.Common.{Some}
-use Rattle.world_heap.specs.BuiltIns.{plain_object}
 use Rattle.js_realm.specs.Building.{Adds, bare_function, numbered}
 use Rattle.js_realm.proofs.bare.add_functions.Given as goal
 

@@ -1,6 +1,6 @@
 use Rattle.std.proofs.Common.{ℕ, Some, arith}
 use Rattle.world_heap.specs.BuiltIns.{plain_object}
-use Rattle.js_realm.specs.Building.{bare_function, numbered}
+use Rattle.js_realm.specs.Building.{numbered}
 use Rattle.js_realm.proofs.Adding.{base_after, length-numbered}
 use Rattle.js_realm.proofs.bare.add_objects.Goals as goal
 

@@ -1,6 +1,6 @@
 use Rattle.std.proofs.Common.{Some}
 use Rattle.world_heap.specs.BuiltIns.{plain_object}
-use Rattle.js_realm.specs.Building.{Adds, bare_function, numbered}
+use Rattle.js_realm.specs.Building.{Adds, numbered}
 use Rattle.js_realm.proofs.bare.add_objects.Given as goal
 
 abbrev pub invariant-objects : goal.invariant-objects

@@ -1,4 +1,4 @@
-use Rattle.std.proofs.Common.{◌≡◌, get_or, nat_eq, ap, sym, subst, ◌∙◌, Some, None, true}
+use Rattle.std.proofs.Common.{◌≡◌, nat_eq, ap, sym, subst, ◌∙◌, Some, None, true}
 use Rattle.std.proofs.lemmas.List.{get_or_read}
 use Rattle.std.specs.Option.{option_and_then, option_copied}
 use Rattle.world_heap.specs.Bodies.{body_of, rebodied}

@@ -1,4 +1,4 @@
-use Rattle.std.proofs.Common.{get_or, ap, ◌∙◌}
+use Rattle.std.proofs.Common.{ap, ◌∙◌}
 use Rattle.world_heap.specs.declared.value.Value.TheVariants.{Undefined}
 use Rattle.world_heap.specs.Table.{put_under}
 use Rattle.js_semantics.specs.Properties.{member}
