@@ -221,7 +221,7 @@ fn constructed(heap: &Heap, object: Loc, value: &Value) -> Value
 /// The function that `new` called on a new object has returned a value (ECMA-262, 10.2.2): an object takes the place of
 /// the new one, and any other value is let go. It is never a fault.
 pub fn after_constructed(state: &mut State, object: Loc, value: Value) -> Result<Next, StepFault>
-    ensures { (nodes : List kind.Node) → IfOk result (λ next. Does nodes 4 (after_rest nodes (AfterFrame.Constructed object) value) state.old state.new next) }
+    ensures { (nodes : List kind.Node) → IfOk result (λ next. Does nodes 2 (after_rest nodes (AfterFrame.Constructed object) value) state.old state.new next) }
 {
     let made = constructed(&state.heap, object, &value);
     discard(value);
