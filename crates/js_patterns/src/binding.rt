@@ -85,10 +85,7 @@ pub fn pattern_frame(
             next,
             of,
             scope,
-        } => {
-            discard(value);
-            bind_properties(state, tree, node, next, of, scope)
-        }
+        } => bind_properties(state, tree, node, next, of, scope),
         PatternFrame::ElementDefault {
             node,
             at,
@@ -100,9 +97,6 @@ pub fn pattern_frame(
             next,
             array,
             scope,
-        } => {
-            discard(value);
-            bind_elements(state, tree, node, next, array, scope)
-        }
+        } => bind_elements(state, tree, node, next, array, scope),
     }
 }
