@@ -6,3 +6,5 @@ pub mod Orderly
 pub mod OrderlyAccess
 pub mod OrderlyExpressions
 pub mod OrderlyObjects
+pub mod OrderlyStatements
+pub mod OrderlyRows
