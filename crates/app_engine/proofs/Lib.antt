@@ -8,3 +8,4 @@ pub mod OrderlyExpressions
 pub mod OrderlyObjects
 pub mod OrderlyStatements
 pub mod OrderlyRows
+pub mod Yielded
