@@ -9,3 +9,5 @@ pub mod OrderlyObjects
 pub mod OrderlyStatements
 pub mod OrderlyRows
 pub mod Yielded
+pub mod Played
+pub mod Windows

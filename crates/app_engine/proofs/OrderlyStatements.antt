@@ -96,7 +96,6 @@ script_of_calm L (Some (kinds.Script items)) = λ w. alloc_calm _ _ (λ env. fil
 script_of_calm L item = tt
 
 module _ {L : Type 0} where
-
   pub row_expression_calm : (value : NodeId) (scope : Scope L) → Calm (row_expression value scope)
   unfolding row_expression
   row_expression_calm value scope = search (calm)

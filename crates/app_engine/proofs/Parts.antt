@@ -12,7 +12,7 @@ use Rattle.world_log.specs.declared.entry.Entry.{Entry}
 use Rattle.world_log.specs.declared.entry.LogItem.{LogItem}
 use Rattle.world_log.specs.declared.entry.LogItem.TheVariants.{World}
 use Rattle.world_log.specs.declared.entry.WorldName.{WorldName}
-use Rattle.app_engine.specs.Log.{Application, Due, Part, due_after, ends, entries_of, has_ended, is_load, is_loaded, is_stop, kept_if, last, last_step, loads, logged, process_of, same_kind, same_world}
+use Rattle.app_engine.specs.Log.{Application, Due, Part, due_after, ends, entries_of, has_ended, is_load, is_loaded, is_stop, kept_if, last, last_step, load, loads, logged, process_of, same_kind, same_world}
 
 -- ---- names
 
@@ -40,7 +40,7 @@ kinds Preload Page h = cc
 kinds Page Main h = cc
 kinds Page Preload h = cc
 
-number_self : (n : ℕ) → nat_eq n n ≡ true
+pub number_self : (n : ℕ) → nat_eq n n ≡ true
 number_self n = grind arith
 
 numbers : (n m : ℕ) → nat_eq n m ≡ true → n ≡ m
@@ -118,10 +118,9 @@ or_false : (a : Bool) → (a || false) ≡ a
 or_false true = refl
 or_false false = refl
 
-or_true : (a : Bool) → (a || true) ≡ true
+pub or_true : (a : Bool) → (a || true) ≡ true
 or_true true = refl
 or_true false = refl
-
 
 loads_none : (w v : WorldName) (es : List Entry) → same_world w v ≡ false → list_any (loads w) (logged v es) ≡ false
 loads_none w v [] h = refl
@@ -131,6 +130,13 @@ loads_none w v (e ∷ es) h =
 pub loaded-other : (w v : WorldName) (log : List LogItem) (es : List Entry) → same_world w v ≡ false → is_loaded w (log ++ logged v es) ≡ is_loaded w log
 unfolding is_loaded
 loaded-other w v log es h = list_any-append (loads w) log (logged v es) ∙ ap (λ (x : Bool). list_any (loads w) log || x) (loads_none w v es h) ∙ or_false (list_any (loads w) log)
+
+pub loaded-own : (w : WorldName) (log : List LogItem) (es : List Entry) → is_loaded w (log ++ logged w (load ∷ es)) ≡ true
+unfolding is_loaded
+loaded-own w log es =
+    list_any-append (loads w) log (logged w (load ∷ es))
+    ∙ ap (λ (x : Bool). list_any (loads w) log || ((x && true) || list_any (loads w) (logged w es))) (same_self w)
+    ∙ or_true (list_any (loads w) log)
 
 -- once loaded or ended, always so
 pub loaded-stays : (w : WorldName) (log more : List LogItem) → is_loaded w log ≡ true → is_loaded w (log ++ more) ≡ true
