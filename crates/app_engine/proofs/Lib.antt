@@ -11,3 +11,4 @@ pub mod OrderlyRows
 pub mod Yielded
 pub mod Played
 pub mod Windows
+pub mod Lines
