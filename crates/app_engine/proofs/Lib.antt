@@ -12,3 +12,4 @@ pub mod Yielded
 pub mod Played
 pub mod Windows
 pub mod Lines
+pub mod Pieces

@@ -122,7 +122,3 @@ written_all name first now turn before taken h w =
 pub written_stop : (name : WorldName) (first now : List ProductType) (turn : Turn) (before taken : Option (List ℕ)) → (turn ≡ Runs → ⊥) → Written name first now turn before taken
     → has_stopped turn ≡ list_any is_stop (made_of first)
 written_stop name first now turn before taken h w = sym (stopped_now turn now h) ∙ w.stops
-
--- the whole text is a front of itself
-pub front_whole : (text : List ℕ) (before taken : Option (List ℕ)) → taken ≡ with_more text before → TakesFront text before taken
-front_whole text before taken e = (text, [], sym (append-nil text), e)

@@ -75,7 +75,7 @@ same_at k l n m g h a b a' b' p q r =
     (λ c d. same_record k n g a c b d)))
     a' b'
 
-same_parts : (v w : WorldName) → v.kind ≡ w.kind → v.window ≡ w.window → v.generation ≡ w.generation → v ≡ w
+pub same_parts : (v w : WorldName) → v.kind ≡ w.kind → v.window ≡ w.window → v.generation ≡ w.generation → v ≡ w
 same_parts v w p q r =
     same_at v.kind w.kind v.window w.window v.generation w.generation v.main_window v.main_generation w.main_window w.main_generation p q r
 

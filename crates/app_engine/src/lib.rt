@@ -8,5 +8,5 @@ mod writing;
 
 pub use laws::{causal, one_log, yielding};
 pub use machine::{Machine, MachineFault};
-pub use player::PlayFault;
+pub use player::{PlayFault, play};
 pub use writing::{Turn, write_entry, write_item, write_products};

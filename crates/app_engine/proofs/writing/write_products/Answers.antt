@@ -1,6 +1,7 @@
 use Rattle.std.proofs.Common.{◌∙◌, arith}
 use Rattle.app_engine.specs.declared.writing.Turn.TheVariants.{Runs}
-use Rattle.app_engine.proofs.Lines.{Written, front_whole, written_all, written_next, written_stop}
+use Rattle.app_engine.proofs.Pieces.{front_whole}
+use Rattle.app_engine.proofs.Lines.{Written, written_all, written_next, written_stop}
 use Rattle.app_engine.proofs.writing.write_products.Goals as goal
 
 pub products-preserved : goal.products-preserved
