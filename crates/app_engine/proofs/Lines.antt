@@ -1,12 +1,11 @@
 -- What has been written of a world's products, and what it still makes.
-use Rattle.std.proofs.Common.{◌≡◌, ℕ, ◌+◌, ◌<◌, Bool, true, false, List, [], ◌∷◌, ◌++◌, length, Option, ap, sym, ◌∙◌, refl, arith, append_assoc, subst}
-use Rattle.std.specs.List.{flat_map, list_any}
+use Rattle.std.proofs.Common.{◌≡◌, ℕ, ◌<◌, Bool, true, false, List, [], ◌∷◌, ◌++◌, length, Option, ap, sym, ◌∙◌, refl, arith, append_assoc, subst}
+use Rattle.std.specs.List.{list_any}
 use Rattle.std.proofs.lemmas.List.{append-nil}
 use Rattle.wl_causes.specs.Taking.{with_more, TakesFront}
 use Rattle.wl_causes.proofs.Takes.{TakesFront-behind, with_more-none, with_more-twice}
 use Rattle.world_log.specs.declared.entry.Product.{Product as ProductType}
 use Rattle.world_log.specs.declared.entry.Product.TheVariants.{Console, Uncaught, Rest, Stopped}
-use Rattle.world_log.specs.declared.entry.Entry.{Entry}
 use Rattle.world_log.specs.declared.entry.Entry.TheVariants.{Product}
 use Rattle.world_log.specs.declared.entry.LogItem.TheVariants.{World}
 use Rattle.world_log.specs.declared.entry.WorldName.{WorldName}

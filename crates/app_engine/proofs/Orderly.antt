@@ -1,23 +1,19 @@
 -- What programs make: lines of the console, and a stop with nothing behind it.
-use Rattle.std.proofs.Common.{◌≡◌, ℕ, zero, suc, List, [], ◌∷◌, length, Bool, true, false, Option, Some, None, refl}
+use Rattle.std.proofs.Common.{◌≡◌, ℕ, zero, suc, List, length, Bool, true, false, Option, Some, None}
 use Rattle.std.specs.Prelude.{if◌then◌else◌, nat_lt, ◌+◌}
 use Rattle.parcel.specs.declared.parcel.ErrorKind.{ErrorKind}
 use Rattle.world_heap.specs.declared.value.Value.{Value}
-use Rattle.world_heap.specs.declared.value.Value.TheVariants.{Str, Ref}
+use Rattle.world_heap.specs.declared.value.Value.TheVariants.{Str}
 use Rattle.world_heap.specs.declared.cell.Cell.{Cell}
 use Rattle.world_heap.specs.Heaps.{places_of}
 use Rattle.world_log.specs.declared.entry.Product.TheVariants.{Console, Uncaught, Rest, Stopped}
-use Rattle.world_log.specs.declared.entry.Stop.{Stop}
-use Rattle.js_tree.specs.declared.node.NodeId.{NodeId}
 use Rattle.js_semantics.specs.declared.fault.Fault.{Fault}
 use Rattle.js_semantics.specs.declared.fault.Fault.TheVariants.{TooLong}
 use Rattle.js_semantics.specs.Faults.{kind_of, message_of}
-use Rattle.js_semantics.specs.declared.mode.Mode.{Mode}
-use Rattle.js_semantics.specs.declared.scope.Scope.{Scope}
 use Rattle.js_semantics.specs.declared.outcome.Outcome.{Outcome}
 use Rattle.js_semantics.specs.declared.outcome.Outcome.TheVariants.{Normal, Return, Break, Continue, Thrown}
 use Rattle.js_semantics.specs.World.{World}
-use Rattle.js_semantics.specs.Prog.{Prog, Cont, End, Over, Enter, Make, Read, Write, Place, Await, Request, bind, on_value, eval, step, halt, count_places, count_units, placed, alloc, change, make_error, throw, make_text}
+use Rattle.js_semantics.specs.Prog.{Prog, Cont, End, Over, Enter, Make, Read, Write, Place, Await, bind, on_value, count_places, count_units, placed, alloc, make_error, throw, make_text}
 
 module _ {L : Type 0} where
   -- the program waits at once

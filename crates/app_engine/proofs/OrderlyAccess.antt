@@ -1,8 +1,8 @@
 -- Properties, names and calls make nothing themselves.
-use Rattle.std.proofs.Common.{◌≡◌, ℕ, zero, suc, List, [], ◌∷◌, length, Bool, true, false, Option, Some, None, refl}
-use Rattle.std.specs.Prelude.{if◌then◌else◌, nat_lt, slice_get, unwrap_or}
+use Rattle.std.proofs.Common.{ℕ, List, [], ◌∷◌, Bool, true, false, Option, Some, None}
+use Rattle.std.specs.Prelude.{slice_get}
 use Rattle.world_heap.specs.declared.value.Value.{Value}
-use Rattle.world_heap.specs.declared.value.Value.TheVariants.{Undefined, Null, Bool as Boolean, Num, Str, Ref}
+use Rattle.world_heap.specs.declared.value.Value.TheVariants.{Undefined, Ref}
 use Rattle.world_heap.specs.declared.value.Property.{Property}
 use Rattle.world_heap.specs.declared.cell.Cell.{Cell}
 use Rattle.world_heap.specs.declared.cell.Cell.TheVariants.{Closure, Native as NativeCell}
@@ -12,14 +12,13 @@ use Rattle.js_tree.specs.declared.node.Function.{Function}
 use Rattle.proto_props.specs.declared.get.Got.{Got}
 use Rattle.proto_props.specs.declared.get.Got.TheVariants.{Value as Given, CallGetter, Absent, Refused}
 use Rattle.proto_props.specs.Gets.{gets}
-use Rattle.js_semantics.specs.declared.fault.Fault.TheVariants.{TooManyCalls}
 use Rattle.js_semantics.specs.declared.scope.Scope.{Scope}
 use Rattle.js_semantics.specs.declared.outcome.Outcome.{Outcome}
-use Rattle.js_semantics.specs.World.{World, built_in, cell_of}
-use Rattle.js_semantics.specs.Prog.{Prog, Cont, End, Enter, Node as NodeRequest, on_value, change, make_text}
-use Rattle.js_semantics.specs.Properties.{Change, Writes, Stays, CallsSetter, Refuses, Deletion, Leaves, Removes, Keeps, made_of, has_property, set_on, delete_step, define_step}
+use Rattle.js_semantics.specs.World.{World, cell_of}
+use Rattle.js_semantics.specs.Prog.{Prog, Cont, change, make_text}
+use Rattle.js_semantics.specs.Properties.{Change, Writes, Stays, CallsSetter, Refuses, Deletion, Leaves, Removes, Keeps, made_of, set_on, delete_step, define_step}
 use Rattle.js_semantics.specs.Environments.{binding_of, bind_in}
-use Rattle.js_semantics.specs.Access.{make_array, or_default, bind_value, bind_parameters, leave, run_body, run_function, activate, invoke, call_cell, call, function_of, rest_of, first_of, patterns_of, take_up, get, carry_out, set, define, delete_with, delete, binding_value, global_holder, read_global, read_name, write_binding, write_global, write_name}
+use Rattle.js_semantics.specs.Access.{make_array, or_default, bind_value, bind_parameters, leave, run_body, run_function, activate, invoke, call_cell, call, function_of, rest_of, take_up, get, carry_out, set, define, delete_with, delete, binding_value, global_holder, read_global, read_name, write_binding, write_global, write_name}
 use Rattle.app_engine.proofs.Orderly.{Calm, CalmFor, if_calm, on_value_calm, alloc_calm, throw_calm, bind_calm, make_text_calm, count_places_calm, calm}
 
 module _ {L : Type 0} where

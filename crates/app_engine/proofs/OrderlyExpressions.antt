@@ -1,8 +1,8 @@
 -- The rows of expressions make nothing themselves.
-use Rattle.std.proofs.Common.{◌≡◌, ℕ, zero, suc, List, [], ◌∷◌, ◌++◌, length, Bool, true, false, Option, Some, None, refl}
-use Rattle.std.specs.Prelude.{if◌then◌else◌, slice_get, codes}
+use Rattle.std.proofs.Common.{ℕ, List, [], ◌∷◌, ◌++◌, Bool, Option, Some, None}
+use Rattle.std.specs.Prelude.{slice_get, codes}
 use Rattle.world_heap.specs.declared.value.Value.{Value}
-use Rattle.world_heap.specs.declared.value.Value.TheVariants.{Undefined, Null, Bool as Boolean, Num, Str, Ref}
+use Rattle.world_heap.specs.declared.value.Value.TheVariants.{Undefined, Null, Bool as Boolean, Num}
 use Rattle.js_tree.specs.declared.node.NodeId.{NodeId}
 use Rattle.js_tree.specs.declared.node.BinaryOperator.{BinaryOperator}
 use Rattle.js_tree.specs.declared.node.BinaryOperator.TheVariants.{InstanceOf, In, StrictEqual, StrictNotEqual}
@@ -13,10 +13,10 @@ use Rattle.js_tree.specs.declared.node.Node.TheVariants as kinds
 use Rattle.js_semantics.specs.declared.fault.Fault.TheVariants.{NotAnObject, WrongOperand}
 use Rattle.js_semantics.specs.declared.scope.Scope.{Scope}
 use Rattle.js_semantics.specs.World.{World, cell_of}
-use Rattle.js_semantics.specs.Prog.{Prog, eval, throw}
+use Rattle.js_semantics.specs.Prog.{Prog, throw}
 use Rattle.js_semantics.specs.Properties.{object_of}
-use Rattle.js_semantics.specs.Operators.{Computed, Is, Makes, Fails, is_truthy, primitive_text, key_of, of_operands, unary_of}
-use Rattle.js_semantics.specs.Expressions.{is_callable, first_text, further_texts, give_type, compute, with_key, index_parts, row_name, row_this, template_from, row_template, row_dot, row_index, updated, update_target, row_update, row_unary, type_of_node, row_typeof, delete_target, row_delete, inherits, instance_of, has_key, apply, row_binary, row_and, row_or, coalesced, row_nullish, row_cond, row_seq, assign_to, row_assign, assign_by, assign_with, row_assign_with}
+use Rattle.js_semantics.specs.Operators.{Computed, Is, Makes, Fails, primitive_text, key_of, of_operands}
+use Rattle.js_semantics.specs.Expressions.{is_callable, first_text, further_texts, compute, with_key, index_parts, row_name, row_this, template_from, row_template, row_dot, row_index, updated, update_target, row_update, row_unary, type_of_node, row_typeof, delete_target, row_delete, inherits, instance_of, has_key, apply, row_binary, row_and, row_or, coalesced, row_nullish, row_cond, row_seq, assign_to, row_assign, assign_by, assign_with, row_assign_with}
 use Rattle.app_engine.proofs.Orderly.{Calm, CalmFor, if_calm, on_value_calm, throw_calm, make_text_calm}
 use Rattle.app_engine.proofs.OrderlyAccess.{calm_access, get_calm}
 

@@ -1,8 +1,8 @@
 -- What is walked, and the rows of literals, functions and calls, make nothing themselves.
-use Rattle.std.proofs.Common.{◌≡◌, ℕ, zero, suc, List, [], ◌∷◌, ◌++◌, length, Bool, true, false, Option, Some, None, refl}
-use Rattle.std.specs.Prelude.{if◌then◌else◌, slice_get, codes}
+use Rattle.std.proofs.Common.{ℕ, List, [], ◌∷◌, ◌++◌, Option, Some, None}
+use Rattle.std.specs.Prelude.{slice_get}
 use Rattle.world_heap.specs.declared.value.Value.{Value}
-use Rattle.world_heap.specs.declared.value.Value.TheVariants.{Undefined, Null, Bool as Boolean, Num, Str, Ref}
+use Rattle.world_heap.specs.declared.value.Value.TheVariants.{Str, Ref}
 use Rattle.world_heap.specs.declared.cell.Body.{Body}
 use Rattle.world_heap.specs.declared.cell.MapEntry.{MapEntry}
 use Rattle.world_heap.specs.declared.cell.Cell.{Cell}
@@ -15,13 +15,12 @@ use Rattle.js_tree.specs.declared.node.Node.TheVariants as kinds
 use Rattle.js_semantics.specs.declared.fault.Fault.TheVariants.{NotIterable, NotAConstructor}
 use Rattle.js_semantics.specs.declared.scope.Scope.{Scope}
 use Rattle.js_semantics.specs.World.{World, cell_at, cell_of}
-use Rattle.js_semantics.specs.Prog.{Prog, Cont}
+use Rattle.js_semantics.specs.Prog.{Prog}
 use Rattle.js_semantics.specs.Operators.{key_of}
-use Rattle.js_semantics.specs.Natives.{is_error_function}
-use Rattle.js_semantics.specs.Iteration.{items_at, points_of, push_item, push_items, push_texts, push_entries, walk_cell, walk_value, values_of, arguments_from, arguments_of, elements_into}
-use Rattle.js_semantics.specs.Objects.{is_constructor, member_key_of, make_closure, make_object, make_function, row_array, members_into, row_object, member_key, member_under, member_keyed, member_of, row_fun, row_arrow, callee_of, row_call, constructed, construct_closure, construct_cell, construct, row_new}
-use Rattle.app_engine.proofs.Orderly.{Calm, CalmFor, calm, if_calm, on_value_calm, throw_calm, make_text_calm}
-use Rattle.app_engine.proofs.OrderlyAccess.{calm_access, call_calm, invoke_calm, make_array_calm}
+use Rattle.js_semantics.specs.Iteration.{points_of, push_item, push_items, push_texts, push_entries, walk_cell, walk_value, values_of, arguments_from, arguments_of, elements_into}
+use Rattle.js_semantics.specs.Objects.{member_key_of, make_closure, make_object, make_function, row_array, members_into, row_object, member_key, member_under, member_keyed, member_of, row_fun, row_arrow, callee_of, row_call, construct_closure, construct_cell, construct, row_new}
+use Rattle.app_engine.proofs.Orderly.{Calm, CalmFor, calm, on_value_calm, throw_calm, make_text_calm}
+use Rattle.app_engine.proofs.OrderlyAccess.{calm_access, call_calm, make_array_calm}
 use Rattle.app_engine.proofs.OrderlyExpressions.{index_parts_calm, with_key_calm}
 
 module _ {L : Type 0} where

@@ -1,10 +1,10 @@
 -- Rows make nothing themselves but lines of the console; so a world that is loaded makes products up to one yield.
-use Rattle.std.proofs.Common.{◌≡◌, ℕ, zero, suc, List, [], ◌∷◌, ◌++◌, length, Bool, true, false, Option, Some, None, refl}
+use Rattle.std.proofs.Common.{ℕ, List, [], ◌∷◌, Bool, Option, Some, None}
 use Rattle.std.specs.Prelude.{slice_get}
 use Rattle.parcel.specs.declared.parcel.ErrorKind.{ErrorKind}
 use Rattle.world_log.specs.declared.entry.Level.{Level}
 use Rattle.world_heap.specs.declared.value.Value.{Value}
-use Rattle.world_heap.specs.declared.value.Value.TheVariants.{Undefined, Null, Bool as Boolean, Num, Str, Ref}
+use Rattle.world_heap.specs.declared.value.Value.TheVariants.{Undefined, Str}
 use Rattle.js_tree.specs.declared.node.NodeId.{NodeId}
 use Rattle.js_tree.specs.declared.node.Node as nodes
 use Rattle.js_tree.specs.declared.node.Node.TheVariants as kinds
@@ -13,12 +13,12 @@ use Rattle.js_semantics.specs.declared.native.Native.TheVariants.{Console, Error
 use Rattle.js_semantics.specs.declared.fault.Fault.TheVariants.{NotAFunction, WrongArgument}
 use Rattle.js_semantics.specs.declared.scope.Scope.{Scope}
 use Rattle.js_semantics.specs.World.{World}
-use Rattle.js_semantics.specs.Prog.{Prog, Read, Request, Step, Script, Node, Bind, Member, While, DoWhile, For, ForOf, Native, on_value}
+use Rattle.js_semantics.specs.Prog.{Read, Request, Step, Script, Node, Bind, Member, While, DoWhile, For, ForOf, Native}
 use Rattle.js_semantics.specs.Natives.{is_module, missing_module, native_at, row_console, row_error, throw_message, require_named, row_require, native_row}
 use Rattle.js_semantics.specs.Realm.{module_of}
-use Rattle.js_semantics.specs.Statements.{pattern_of, while_turn, do_turn, for_tested, for_turn, of_bound}
+use Rattle.js_semantics.specs.Statements.{pattern_of, while_turn, do_turn, for_tested, for_turn}
 use Rattle.js_semantics.specs.Rows.{row_of, row_at, for_row, row}
-use Rattle.app_engine.proofs.Orderly.{Calm, CalmFor, calm, if_calm, on_value_calm, make_error_calm, throw_calm, bind_calm}
+use Rattle.app_engine.proofs.Orderly.{Calm, calm, if_calm, on_value_calm, throw_calm, bind_calm}
 use Rattle.app_engine.proofs.OrderlyExpressions.{row_name_calm, row_this_calm, row_template_calm, row_dot_calm, row_index_calm, row_update_calm, row_unary_calm, row_typeof_calm, row_delete_calm, row_binary_calm, row_and_calm, row_or_calm, row_nullish_calm, row_cond_calm, row_seq_calm, row_assign_calm, row_assign_with_calm}
 use Rattle.app_engine.proofs.OrderlyObjects.{row_array_calm, row_object_calm, row_fun_calm, row_arrow_calm, row_call_calm, row_new_calm, member_of_calm}
 use Rattle.app_engine.proofs.OrderlyStatements.{pattern_of_calm, script_of_calm, row_declare_calm, row_block_calm, row_expression_calm, row_if_calm, row_while_calm, row_do_while_calm, row_for_calm, row_for_of_calm, row_return_calm, row_throw_calm, row_try_calm, while_turn_calm, do_turn_calm, for_tested_calm, for_turn_calm, of_bound_calm}

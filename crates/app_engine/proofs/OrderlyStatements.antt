@@ -1,8 +1,8 @@
 -- The rows of declarations, patterns and statements make nothing themselves.
-use Rattle.std.proofs.Common.{◌≡◌, ℕ, ◌+◌, zero, suc, List, [], ◌∷◌, ◌++◌, map, length, Bool, true, false, Option, Some, None, refl}
+use Rattle.std.proofs.Common.{ℕ, ◌+◌, List, [], ◌∷◌, map, Bool, true, false, Option, Some, None}
 use Rattle.std.specs.Prelude.{if◌then◌else◌, slice_get}
 use Rattle.world_heap.specs.declared.value.Value.{Value}
-use Rattle.world_heap.specs.declared.value.Value.TheVariants.{Undefined, Null, Bool as Boolean, Num, Str, Ref}
+use Rattle.world_heap.specs.declared.value.Value.TheVariants.{Undefined, Null, Ref}
 use Rattle.world_heap.specs.declared.cell.Binding.{Binding}
 use Rattle.world_heap.specs.declared.cell.Cell.{Cell}
 use Rattle.world_heap.specs.declared.cell.Cell.TheVariants.{Array}
@@ -16,14 +16,14 @@ use Rattle.js_semantics.specs.declared.fault.Fault.TheVariants.{NotAnObject, Not
 use Rattle.js_semantics.specs.declared.scope.Scope.{Scope}
 use Rattle.js_semantics.specs.declared.outcome.Outcome.{Outcome}
 use Rattle.js_semantics.specs.declared.outcome.Outcome.TheVariants.{Normal, Return, Break, Continue, Thrown}
-use Rattle.js_semantics.specs.World.{World, cell_at}
-use Rattle.js_semantics.specs.Prog.{Prog, Cont, End, Enter, ForOf, alloc, done}
+use Rattle.js_semantics.specs.World.{cell_at}
+use Rattle.js_semantics.specs.Prog.{Prog, End, Enter, ForOf, alloc, done}
 use Rattle.js_semantics.specs.Environments.{names_of, declared_in, env_cell, bindings_at, unready}
 use Rattle.js_semantics.specs.Operators.{is_truthy}
 use Rattle.js_semantics.specs.Iteration.{items_at}
 use Rattle.js_semantics.specs.Statements.{inside, bind_properties, bind_object, bind_elements, bind_array_at, bind_array, pattern_of, value_or_undefined, declare_pairs, row_declare, fill_function, fill_functions, run_items, enter_block, row_block, script_of, row_expression, run_or_done, row_if, after_body, while_turn, row_while, do_turn, row_do_while, copied_cell, copy_scope, run_next, for_turn, for_tested, for_start, for_declared, for_from, row_for, of_turn, of_bound, row_for_of, row_return, row_throw, handle, caught, replaced_by, at_last, row_try}
 use Rattle.app_engine.proofs.Orderly.{Calm, CalmFor, calm, if_calm, on_value_calm, alloc_calm, throw_calm, bind_calm}
-use Rattle.app_engine.proofs.OrderlyAccess.{calm_access, bind_value_calm, get_calm, or_default_calm}
+use Rattle.app_engine.proofs.OrderlyAccess.{bind_value_calm, get_calm, or_default_calm}
 use Rattle.app_engine.proofs.OrderlyObjects.{make_function_calm, walk_value_calm}
 
 module _ {L : Type 0} where

@@ -1,8 +1,8 @@
 -- Names of worlds, and what a log says once a world's entries stand behind it.
-use Rattle.std.proofs.Common.{◌≡◌, ℕ, ◌+◌, Bool, true, false, List, [], ◌∷◌, ◌++◌, map, ap, sym, ◌∙◌, refl, Some, None, Option, arith, subst}
+use Rattle.std.proofs.Common.{◌≡◌, ℕ, Bool, true, false, List, [], ◌∷◌, ◌++◌, ap, ◌∙◌, refl, Some, None, Option, arith, subst}
 use Rattle.std.proofs.Math.Nat.{ℕ_set}
 use Rattle.std.specs.Prelude.{◌&&◌, ◌||◌, nat_eq}
-use Rattle.std.specs.List.{flat_map, fold, list_any}
+use Rattle.std.specs.List.{flat_map, list_any}
 use Rattle.std.proofs.lemmas.Grind.{flat_map-append, fold-append}
 use Rattle.std.proofs.lemmas.List.{append-nil}
 use Rattle.std.proofs.lemmas.List.Folds.{list_any-append}
@@ -10,7 +10,6 @@ use Rattle.world_kind.specs.declared.WorldKind.{WorldKind}
 use Rattle.world_kind.specs.declared.WorldKind.TheVariants.{Main, Preload, Page}
 use Rattle.world_log.specs.declared.entry.Entry.{Entry}
 use Rattle.world_log.specs.declared.entry.LogItem.{LogItem}
-use Rattle.world_log.specs.declared.entry.LogItem.TheVariants.{World}
 use Rattle.world_log.specs.declared.entry.WorldName.{WorldName}
 use Rattle.app_engine.specs.Log.{Application, Due, Part, due_after, ends, entries_of, has_ended, is_load, is_loaded, is_stop, kept_if, last, last_step, load, loads, logged, process_of, same_kind, same_world}
 

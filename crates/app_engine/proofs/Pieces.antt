@@ -1,7 +1,7 @@
 -- A text in two pieces, written whole or in front.
 use Rattle.std.proofs.Common.{◌≡◌, ℕ, ◌+◌, ◌-◌, ◌<◌, Bool, true, false, List, [], ◌∷◌, ◌++◌, map, length, drop, get_or, Option, Some, ap, sym, ◌∙◌, refl, arith, append_assoc, subst, length-append}
 use Rattle.std.specs.Prelude.{if◌then◌else◌, slice_get}
-use Rattle.std.specs.List.{flat_map, list_any}
+use Rattle.std.specs.List.{list_any}
 use Rattle.std.specs.Option.{option_map_or}
 use Rattle.std.proofs.lemmas.Grind.{flat_map-append}
 use Rattle.std.proofs.lemmas.List.{append-nil, drop_more, map-append, length-map}
@@ -21,7 +21,7 @@ use Rattle.js_semantics.specs.Run.{Setting}
 use Rattle.js_semantics.specs.Alone.{alone}
 use Rattle.app_manifest.specs.declared.app.App.{App}
 use Rattle.app_manifest.specs.declared.app.WindowApp.{WindowApp}
-use Rattle.app_engine.specs.Log.{Application, Lawful, WindowScripts, first_load, is_stop, load, log_of, logged, page_log, page_name, preload_name, script_of, setting_of, transcript, window_log, windows_log}
+use Rattle.app_engine.specs.Log.{Application, Lawful, WindowScripts, first_load, is_stop, load, log_of, logged, page_log, page_name, preload_name, setting_of, transcript, window_log, windows_log}
 use Rattle.app_engine.specs.Laws.{IsOnlyLog, IsYielding, Yields}
 use Rattle.app_engine.specs.Machines.{lines_of, world_setting}
 use Rattle.app_engine.specs.Applications.{application_of, window_lines, window_of, windows_lines}

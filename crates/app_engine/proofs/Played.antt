@@ -1,9 +1,8 @@
 -- The log by recursion is lawful: each world that is loaded stands in it with its whole transcript.
-use Rattle.std.proofs.Common.{◌≡◌, ℕ, ◌+◌, ◌<◌, ◌≤◌, Bool, true, false, List, [], ◌∷◌, ◌++◌, ap, sym, ◌∙◌, refl, arith, append_assoc, subst}
-use Rattle.std.specs.Prelude.{◌&&◌, ◌||◌, nat_eq, if◌then◌else◌}
-use Rattle.std.specs.List.{flat_map, list_any}
+use Rattle.std.proofs.Common.{◌≡◌, Bool, true, false, List, [], ◌∷◌, ◌++◌, ap, sym, ◌∙◌, refl, append_assoc, subst}
+use Rattle.std.specs.Prelude.{◌||◌, if◌then◌else◌}
+use Rattle.std.specs.List.{flat_map}
 use Rattle.std.proofs.lemmas.List.{append-nil}
-use Rattle.std.proofs.lemmas.List.Folds.{list_any-append}
 use Rattle.world_log.specs.declared.entry.Delivery.TheVariants.{Load}
 use Rattle.world_log.specs.declared.entry.Product.TheVariants.{Console, Uncaught, Rest, Stopped}
 use Rattle.world_log.specs.declared.entry.Entry.{Entry}
@@ -11,12 +10,11 @@ use Rattle.world_log.specs.declared.entry.Entry.TheVariants.{Delivery, Product}
 use Rattle.world_log.specs.declared.entry.LogItem.{LogItem}
 use Rattle.world_log.specs.declared.entry.LogItem.TheVariants.{World}
 use Rattle.world_log.specs.declared.entry.WorldName.{WorldName}
-use Rattle.world_log.specs.Print.{main_name}
 use Rattle.js_semantics.specs.Run.{Arrival}
 use Rattle.js_semantics.specs.Alone.{alone}
-use Rattle.app_engine.specs.Log.{Application, Due, End, Exactly, Follows, Lawful, Names, Next, Part, Product_of, WindowScripts, deliveries, delivery_of, ends, first_load, has_ended, is_loaded, is_stop, last, load, log_of, logged, next_load, page_log, page_name, preload_name, process_of, same_kind, same_world, setting_of, transcript, window_log, window_worlds, windows_log, worlds_of}
+use Rattle.app_engine.specs.Log.{Application, Due, Exactly, Follows, Names, Next, Part, Product_of, deliveries, delivery_of, has_ended, is_loaded, load, logged, next_load, process_of, same_world, setting_of, transcript, worlds_of}
 use Rattle.app_engine.specs.Laws.{IsYielding, Yields}
-use Rattle.app_engine.proofs.Parts.{due-push, ended-append, ended-stays, ends-other, ends-own, loaded-other, loaded-own, loaded-stays, or_true, part-other, part-own, same_means, same_self}
+use Rattle.app_engine.proofs.Parts.{due-push, ended-stays, loaded-other, loaded-own, loaded-stays, or_true, part-other, part-own, same_means, same_self}
 use Rattle.app_engine.proofs.Yielded.{yielding}
 
 -- ---- what follows

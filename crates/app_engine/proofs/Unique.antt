@@ -1,5 +1,5 @@
 -- At most one lawful log: what a world makes next is settled by its part so far.
-use Rattle.std.proofs.Common.{◌≡◌, ℕ, ◌≤◌, Bool, true, List, [], ◌∷◌, ◌++◌, length, ap, sym, ◌∙◌, refl, arith, append_assoc, subst}
+use Rattle.std.proofs.Common.{◌≡◌, ℕ, ◌≤◌, Bool, List, [], ◌∷◌, ◌++◌, length, ap, sym, ◌∙◌, refl, arith, append_assoc, subst}
 use Rattle.std.proofs.lemmas.Grind.{flat_map-append}
 use Rattle.std.proofs.lemmas.List.{append-nil}
 use Rattle.std.specs.List.{flat_map}
@@ -11,7 +11,7 @@ use Rattle.world_log.specs.declared.entry.LogItem.TheVariants.{World}
 use Rattle.world_log.specs.declared.entry.WorldName.{WorldName}
 use Rattle.js_semantics.specs.Run.{Arrival}
 use Rattle.js_semantics.specs.Alone.{alone}
-use Rattle.app_engine.specs.Log.{Application, Due, End, Exactly, Follows, Lawful, Names, Next, Part, Product_of, deliveries, delivery_of, entries_of, kept_if, same_world, setting_of}
+use Rattle.app_engine.specs.Log.{Application, Due, End, Exactly, Follows, Lawful, Names, Next, Part, Product_of, deliveries, delivery_of, entries_of, kept_if, setting_of}
 use Rattle.app_engine.specs.Laws.{BeginsByDelivery, Causal}
 use Rattle.app_engine.proofs.Adding.{causal_of}
 use Rattle.app_engine.proofs.Lists.{cancel, heads, tails}

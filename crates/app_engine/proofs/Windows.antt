@@ -9,7 +9,7 @@ use Rattle.world_log.specs.declared.entry.WorldName.{WorldName}
 use Rattle.world_log.specs.Print.{main_name}
 use Rattle.js_semantics.specs.Alone.{alone, alone_by, trace_of}
 use Rattle.js_semantics.specs.Run.{run}
-use Rattle.app_engine.specs.Log.{Application, Due, Lawful, Part, WindowScripts, deliveries, ends, has_ended, is_loaded, is_stop, last, log_of, logged, next_load, page_log, page_name, preload_name, process_of, same_kind, same_world, setting_of, transcript, window_log, window_worlds, windows_log, worlds_of}
+use Rattle.app_engine.specs.Log.{Application, Due, Lawful, Part, WindowScripts, deliveries, ends, has_ended, is_loaded, is_stop, last, log_of, logged, page_log, page_name, preload_name, same_kind, same_world, transcript, window_log, window_worlds, windows_log, worlds_of}
 use Rattle.app_engine.specs.Laws.{IsOnlyLog}
 use Rattle.app_engine.proofs.Parts.{ended-append, ends-other, ends-own, number_self}
 use Rattle.app_engine.proofs.Played.{Apart, Stands, Unnamed, due_here, load_next, pass_next}

@@ -1,15 +1,14 @@
 -- A world that is loaded makes products up to one yield.
-use Rattle.std.proofs.Common.{◌≡◌, ℕ, zero, suc, List, [], ◌∷◌, length, Bool, true, false, refl, ap, ◌∙◌}
+use Rattle.std.proofs.Common.{◌≡◌, ℕ, zero, suc, [], Bool, true, false, refl}
 use Rattle.std.specs.Prelude.{if◌then◌else◌, nat_eq, nat_lt, ◌+◌}
 use Rattle.world_log.specs.declared.entry.Product.TheVariants.{Console, Uncaught, Rest, Stopped}
 use Rattle.js_semantics.specs.declared.mode.Mode.{Mode}
-use Rattle.js_semantics.specs.declared.mode.Mode.TheVariants.{Idle}
 use Rattle.js_semantics.specs.declared.outcome.Outcome.{Outcome}
 use Rattle.js_semantics.specs.declared.outcome.Outcome.TheVariants.{Normal, Return, Break, Continue, Thrown}
 use Rattle.js_semantics.specs.World.{World, limited}
 use Rattle.js_semantics.specs.Prog.{Prog, Cont, End, Over, Enter, Make, Read, Write, Place, Await, Request, bind, count_units}
 use Rattle.js_semantics.specs.Rows.{row}
-use Rattle.js_semantics.specs.Run.{Setting, Trace, Ending, Entering, Placing, Waiting, entries, walk, take_place, go_with, end_with, spend, receive, run, first_world, script_end, load_row}
+use Rattle.js_semantics.specs.Run.{Setting, Ending, Entering, Placing, Waiting, entries, walk, take_place, go_with, end_with, spend, receive, run, first_world, script_end, load_row}
 use Rattle.js_semantics.specs.Alone.{alone, alone_by, trace_of, cells_of}
 use Rattle.app_engine.specs.Log.{first_load}
 use Rattle.app_engine.specs.Laws.{Yields, IsYielding}

@@ -1,5 +1,5 @@
 -- What is written of the products of a world.
-use Rattle.std.specs.Prelude.{◌≡◌, ℕ, List, [], ◌∷◌, map, Bool, true, false}
+use Rattle.std.specs.Prelude.{ℕ, List, map, Bool, true, false}
 use Rattle.world_kind.specs.declared.WorldKind.{WorldKind}
 use Rattle.world_heap.specs.declared.limits.Limits.{Limits}
 use Rattle.world_heap.specs.Bounded.{bounds_of}

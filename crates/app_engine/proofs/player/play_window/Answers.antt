@@ -1,4 +1,4 @@
-use Rattle.std.proofs.Common.{[], true, false, ap, refl, sym, ◌≡◌, ◌∙◌}
+use Rattle.std.proofs.Common.{true, false, refl, sym, ◌≡◌, ◌∙◌}
 use Rattle.std.specs.List.{list_any}
 use Rattle.js_semantics.specs.Alone.{alone}
 use Rattle.world_kind.specs.declared.WorldKind.TheVariants.{Preload}

@@ -1,5 +1,5 @@
 use Rattle.std.proofs.Common.{arith}
-use Rattle.app_engine.proofs.Pieces.{item_then, windows_all, windows_first, windows_front, windows_next}
+use Rattle.app_engine.proofs.Pieces.{item_then, windows_front, windows_next}
 use Rattle.app_engine.proofs.player.play_windows.Goals as goal
 
 pub returns-in-Err-clause-front : goal.returns-in-Err-clause-front

@@ -1,5 +1,4 @@
-use Rattle.std.proofs.Common.{ap, sym}
-use Rattle.app_engine.proofs.Pieces.{both_pieces, front_after, front_in, front_whole, lines-load, yields_made}
+use Rattle.app_engine.proofs.Pieces.{both_pieces, front_after, front_in, lines-load, yields_made}
 use Rattle.app_engine.proofs.player.play_world.Goals as goal
 
 pub returns-in-Err-clause-front : goal.returns-in-Err-clause-front
