@@ -13,3 +13,4 @@ pub mod Played
 pub mod Windows
 pub mod Lines
 pub mod Pieces
+mod Rows
