@@ -1,5 +1,5 @@
 -- A new world in a pool.
-use Rattle.std.proofs.Common.{◌≡◌, ◌≢◌, ℕ, suc, ◌+◌, ◌<◌, ◌≤◌, List, [], ◌∷◌, length, false, Some, nat_eq, refl, sym, ap, ◌∙◌, subst, arith}
+use Rattle.std.proofs.Common.{◌≡◌, ℕ, ◌+◌, List, length, false, Some, nat_eq, refl, sym, ap, ◌∙◌, subst, arith}
 use Rattle.js_tree.specs.declared.node.Node.{Node}
 use Rattle.world_kind.specs.declared.WorldKind.{WorldKind}
 use Rattle.world_heap.specs.Maps.{keys, find, without, stands}
@@ -11,13 +11,12 @@ use Rattle.js_semantics.specs.Alone.{IsRenamed, alone, alone_by}
 use Rattle.js_semantics.specs.Run.{Arrival, Setting, Trace, entries}
 use Rattle.js_semantics.proofs.Relocating.{alone_same}
 use Rattle.js_machine.specs.declared.state.State.{State}
-use Rattle.js_machine.specs.declared.state.Control.{Control}
 use Rattle.js_machine.specs.Does.{Follows, IsFresh, is_running, to_come}
 use Rattle.alone_laws.specs.Turns.{IsYielding, Turns}
 use Rattle.alone_laws.proofs.Turning.{yielding}
 use Rattle.world_machine.specs.declared.machine.Machine.{Machine}
 use Rattle.world_machine.specs.declared.world.World.{World}
-use Rattle.world_machine.specs.World.{IsBegun, IsIn, Parts, Promises, Sits, heap_in, owner_of, state_over}
+use Rattle.world_machine.specs.World.{IsBegun, Parts, Promises, Sits, heap_in, state_over}
 use Rattle.world_machine.proofs.Pools.{coming_by, find-without, in_by, machine_in, owner_by, spares_by, stands-without}
 
 -- what a first state makes is what its world makes alone, in turns

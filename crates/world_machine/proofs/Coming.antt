@@ -1,5 +1,5 @@
 -- What is still to come from a state, and the entries of its turns.
-use Rattle.std.proofs.Common.{◌≡◌, ℕ, suc, List, [], ◌∷◌, ◌++◌, length, map, drop, Bool, true, false, not, Some, refl, sym, ap, ◌∙◌, subst, slice_get, ◌-◌, ◌+◌, arith}
+use Rattle.std.proofs.Common.{◌≡◌, ℕ, suc, List, [], ◌∷◌, ◌++◌, length, map, Bool, true, false, not, Some, refl, sym, ap, ◌∙◌, subst, slice_get, ◌-◌, arith}
 use Rattle.std.specs.Prelude.{if◌then◌else◌}
 use Rattle.js_tree.specs.declared.node.Node.{Node}
 use Rattle.world_log.specs.declared.entry.Delivery.{Delivery}
@@ -15,7 +15,7 @@ use Rattle.js_semantics.specs.Run.{Arrival, Budget, Trace, Then, Cut, entries, r
 use Rattle.js_machine.specs.declared.state.State.{State}
 use Rattle.js_machine.specs.declared.state.Control.{Control}
 use Rattle.js_machine.specs.declared.state.Control.TheVariants as controls
-use Rattle.js_machine.specs.Does.{after, awaits_in, budget_of, control_prog, does_await, is_running, stack_rest, to_come, world_of}
+use Rattle.js_machine.specs.Does.{after, awaits_in, budget_of, control_prog, is_running, stack_rest, to_come, world_of}
 use Rattle.alone_laws.specs.Turns.{Turns}
 use Rattle.world_machine.specs.declared.yielding.Yield.{Yield}
 use Rattle.world_machine.specs.declared.yielding.Yield.TheVariants.{Rest, Stopped}

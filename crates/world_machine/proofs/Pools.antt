@@ -1,9 +1,8 @@
 -- Worlds of a pool, beside one that moves.
-use Rattle.std.proofs.Common.{◌≡◌, ◌≢◌, ℕ, suc, ◌+◌, ◌<◌, ◌≤◌, List, [], ◌∷◌, length, Bool, true, false, Option, Some, None, option_map, unwrap_or, nat_eq, if◌then◌else◌, refl, sym, ap, ◌∙◌, subst, arith}
+use Rattle.std.proofs.Common.{◌≡◌, ◌≢◌, ℕ, ◌≤◌, List, [], ◌∷◌, length, true, false, Some, None, option_map, unwrap_or, nat_eq, if◌then◌else◌, refl, sym, ap, ◌∙◌, subst, arith}
 use Rattle.std.proofs.lemmas.Bool.Decides.{nat_tests}
 use Rattle.std.specs.Prelude.{IsSomeAnd, IfSome}
 use Rattle.js_tree.specs.declared.node.Node.{Node}
-use Rattle.world_heap.specs.declared.cell.Cell.{Cell}
 use Rattle.world_heap.specs.Maps.{keys, find, without, stands, Stands}
 use Rattle.world_heap.specs.Shelf.{values_of}
 use Rattle.world_heap.specs.Stored.{IsDistinct}
@@ -15,7 +14,7 @@ use Rattle.js_machine.specs.Does.{Follows}
 use Rattle.alone_laws.specs.Turns.{Turns}
 use Rattle.world_machine.specs.declared.machine.Machine.{Machine}
 use Rattle.world_machine.specs.declared.world.World.{World}
-use Rattle.world_machine.specs.World.{IsComing, IsIn, IsSpared, Promises, Sits, Spares, coming_from, owner_of}
+use Rattle.world_machine.specs.World.{IsComing, IsIn, Promises, Sits, Spares, coming_from, owner_of}
 
 module _ {C : Type 0} where
   pub find-without : (maps : List (ℕ × C)) (o k : ℕ) → k ≢ o → find nat_eq (without nat_eq maps o) k ≡ find nat_eq maps k

@@ -1,5 +1,5 @@
 -- A world takes a delivery, and a world ends.
-use Rattle.std.proofs.Common.{◌≡◌, ◌≢◌, ℕ, suc, ◌+◌, ◌<◌, ◌≤◌, List, [], ◌∷◌, ◌++◌, length, map, drop, Bool, true, false, Some, nat_eq, refl, sym, ap, ◌∙◌, subst, arith}
+use Rattle.std.proofs.Common.{◌≡◌, ℕ, suc, ◌+◌, ◌≤◌, List, [], ◌∷◌, ◌++◌, length, map, drop, true, false, Some, nat_eq, refl, sym, ap, ◌∙◌, subst, arith}
 use Rattle.js_tree.specs.declared.node.Node.{Node}
 use Rattle.world_heap.specs.declared.cell.Cell.{Cell}
 use Rattle.std.specs.Option.{option_map_or}
@@ -23,7 +23,7 @@ use Rattle.world_machine.specs.declared.world.World.{World}
 use Rattle.world_machine.specs.declared.yielding.Yield.{Yield}
 use Rattle.world_machine.specs.declared.yielding.Yield.TheVariants.{Stopped}
 use Rattle.world_machine.specs.Yields.{EndsBy}
-use Rattle.world_machine.specs.World.{AreDistinct, IsComing, IsEnded, IsIn, Parts, Promises, Resumes, Sits, Spares, Takes, behind, coming_from, heap_in, is_awaited, owner_of, state_over}
+use Rattle.world_machine.specs.World.{AreDistinct, IsComing, IsEnded, IsIn, Parts, Promises, Resumes, Sits, Spares, behind, coming_from, heap_in, is_awaited, owner_of, state_over}
 use Rattle.world_machine.proofs.Coming.{ends_by, entries-after, none_behind, quiet, takes, turns_behind}
 use Rattle.world_machine.proofs.Pools.{coming_by, find-without, in_by, owner_by, promises_by, sits_at, spares_by, spares_without, stands-without}
 use Rattle.world_machine.proofs.Supplying.{some_supply}

@@ -18,7 +18,7 @@ use js_realm::first_state;
 use js_step::resume;
 use js_tree::Tree;
 use std::alloc::{AllocError, Global};
-use world_heap::{Heap, Limits, Pool};
+use world_heap::{Limits, Pool};
 use world_kind::WorldKind;
 use world_log::{Delivery, Product};
 
@@ -32,9 +32,9 @@ pub struct World {
 // Lets a value go. A generic function keeps the cases of its drop out of its callers' proofs.
 fn discard<T: Drop>(_value: T) {}
 
-// The heap of a state, without the rest.
-fn heap_of(state: State) -> Heap
-    ensures { result ≡ state.heap }
+// Ends the heap of a state.
+fn end_heap(state: State) -> Pool
+    ensures { result ≡ record { maps = state.heap.others; given = state.heap.given } }
 {
     let State {
         heap,
@@ -44,7 +44,7 @@ fn heap_of(state: State) -> Heap
     } = state;
     discard(frames);
     discard(control);
-    heap
+    heap.end()
 }
 
 impl World {
@@ -148,6 +148,6 @@ impl World {
     {
         let state = self.take_state(pool);
         discard(self);
-        heap_of(state).end()
+        end_heap(state)
     }
 }
