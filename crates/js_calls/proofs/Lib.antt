@@ -1,6 +1,7 @@
 mod Lists
 mod Defaulted
 mod Called
+mod Constructed
 mod Reading
 mod Joining
 mod Storing

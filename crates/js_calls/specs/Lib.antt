@@ -1,6 +1,7 @@
 pub mod Callees
 pub mod Defaults
 pub mod Calling
+pub mod Constructing
 pub mod Reading
 pub mod Writing
 pub mod Naming

@@ -21,11 +21,11 @@ use world_heap::{Loc, Value};
 
 /// A call of the function of a node: its environment, its receiver and its arguments.
 #[derive(Drop)]
-struct Invocation<L = Loc> {
-    node: NodeId,
-    env: L,
-    receiver: Value<L>,
-    arguments: Items<Value<L>>,
+pub(crate) struct Invocation<L = Loc> {
+    pub(crate) node: NodeId,
+    pub(crate) env: L,
+    pub(crate) receiver: Value<L>,
+    pub(crate) arguments: Items<Value<L>>,
 }
 
 // Leaves the frames of a call: what is done with its value, and its end.
@@ -111,7 +111,7 @@ fn activate(
 }
 
 // Calls the function of a node. What can't be called throws before a frame is left.
-fn invoke(
+pub(crate) fn invoke(
     state: &mut State,
     tree: &Tree,
     invocation: Invocation,

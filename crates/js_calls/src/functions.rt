@@ -2,6 +2,7 @@
 ghost use Rattle.std.specs.Prelude.{◌≡◌, ◌+◌, [], ◌∷◌, drop, slice_get, Some, None, MatchOption};
 ghost use Rattle.js_names.specs.Patterns.{nodes_of};
 ghost use Rattle.js_semantics.specs.Access.{function_of};
+ghost use Rattle.js_semantics.specs.Objects.{is_constructor};
 ghost use Rattle.js_machine.specs.Parts.{body_node, parameters_from, rest_parameter};
 
 use js_tree::{BindElement, Function, Node, NodeId, Tree};
@@ -42,6 +43,23 @@ pub fn function_at(tree: &Tree, node: NodeId) -> Option<&Function>
     match node_at(tree, node) {
         Some(node) => function_in(node),
         None => None,
+    }
+}
+
+// Whether a node makes functions that can be called with `new`.
+fn makes_constructors(node: &Node) -> bool
+    ensures { result ≡ is_constructor (Some node.now) }
+{
+    matches!(node, Node::FunDecl { .. } | Node::Fun { .. })
+}
+
+/// Whether the closures of a node can be called with `new` (ECMA-262, 10.2.5: MakeConstructor).
+pub fn is_constructor(tree: &Tree, node: NodeId) -> bool
+    ensures { result ≡ is_constructor (slice_get (nodes_of tree.now) node.0) }
+{
+    match node_at(tree, node) {
+        Some(node) => makes_constructors(node),
+        None => false,
     }
 }
 

@@ -69,6 +69,16 @@ fn is_symbol(cell: &Cell) -> bool
     matches!(cell, Cell::Symbol { .. })
 }
 
+/// Whether a symbol stands at a location.
+pub fn is_symbol_at(heap: &Heap, loc: Loc) -> bool
+    ensures { result ≡ is_symbol (find nat_eq heap.now.cells loc) }
+{
+    match heap.get(loc) {
+        Some(cell) => is_symbol(cell),
+        None => false,
+    }
+}
+
 // Whether a symbol stands at a location, where a cell does.
 fn symbol_at(heap: &Heap, loc: Loc) -> Option<bool>
     ensures { IfSome result (λ symbol. symbol ≡ is_symbol (find nat_eq heap.now.cells loc)) }

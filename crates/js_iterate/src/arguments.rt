@@ -4,17 +4,18 @@ ghost use Rattle.js_tree.specs.declared.node.Node as kind;
 ghost use Rattle.js_names.specs.Patterns.{nodes_of};
 ghost use Rattle.js_semantics.specs.Access.{call};
 ghost use Rattle.js_semantics.specs.Iteration.{items_at, values_of, walk_value};
+ghost use Rattle.js_semantics.specs.Objects.{construct};
 ghost use Rattle.js_semantics.specs.Prog.{Read, eval, give, step};
 ghost use Rattle.js_semantics.specs.World.{cell_at};
 ghost use Rattle.js_machine.specs.Does.{Does};
-ghost use Rattle.js_machine.specs.Frames.{arguments_rest, call_rest};
+ghost use Rattle.js_machine.specs.Frames.{arguments_rest, call_rest, target_call};
 ghost use Rattle.js_step_object.specs.Elements.{spread_in};
 ghost use Rattle.js_iterate.specs.Calls.{pending_rest};
 
 use crate::filling::discard;
 use crate::rests::items_at;
 use crate::walking::walk_value;
-use js_calls::{call_last, copy_scope};
+use js_calls::{call_last, construct, copy_scope};
 use js_machine::{CallFrame, CallTarget, Frame, Next, State, ValueFrame, stopped};
 use js_semantics::{Scope, StepFault};
 use js_step_stmt::{items_of, node_at};
@@ -23,15 +24,14 @@ use sqlite_items::Items;
 use world_heap::{Loc, Value};
 use world_log::Stop;
 
-/// A call whose arguments are being evaluated: its node, the place of the argument that is next, the arguments before
-/// it, and what is called with which receiver.
+/// A call or `new` whose arguments are being evaluated: its node, the place of the argument that is next, the arguments
+/// before it, and what they are for.
 #[derive(Drop)]
 pub struct Pending<L = Loc> {
     pub node: NodeId,
     pub next: usize,
     pub before: Items<Value<L>>,
-    pub callee: Value<L>,
-    pub receiver: Value<L>,
+    pub target: CallTarget<L>,
 }
 
 // The node whose values a spread puts among the arguments, where a node is a spread.
@@ -66,20 +66,16 @@ fn next_of(list: &[NodeId], at: usize) -> Option<(NodeId, usize)>
     }
 }
 
-// The frame of an argument of a call.
+// The frame of an argument.
 fn argument_frame(pending: Pending, next: usize, spread: bool, scope: Scope) -> Frame
-    ensures { result ≡ Frame.OnValue (ValueFrame.Call (CallFrame.Argument pending.node next spread pending.before (CallTarget.Call pending.callee pending.receiver) scope)) }
+    ensures { result ≡ Frame.OnValue (ValueFrame.Call (CallFrame.Argument pending.node next spread pending.before pending.target scope)) }
 {
-    let target = CallTarget::Call {
-        callee: pending.callee,
-        receiver: pending.receiver,
-    };
     Frame::OnValue(ValueFrame::Call(CallFrame::Argument {
         node: pending.node,
         next,
         spread,
         done: pending.before,
-        target,
+        target: pending.target,
         scope,
     }))
 }
@@ -92,7 +88,7 @@ fn enter_one(
     next: usize,
     scope: Scope,
 ) -> Result<Next, StepFault>
-    ensures { (nodes : List kind.Node) → IfOk result (λ ended. Does nodes 4 (eval argument scope (λ v. arguments_rest nodes pending.node next (pending.before ++ v ∷ []) (CallTarget.Call pending.callee pending.receiver) scope)) state.old state.new ended) }
+    ensures { (nodes : List kind.Node) → IfOk result (λ ended. Does nodes 4 (eval argument scope (λ v. arguments_rest nodes pending.node next (pending.before ++ v ∷ []) pending.target scope)) state.old state.new ended) }
 {
     let inner = copy_scope(state.alloc, &scope)?;
     let frame = argument_frame(pending, next, false, scope);
@@ -107,7 +103,7 @@ fn enter_spread(
     next: usize,
     scope: Scope,
 ) -> Result<Next, StepFault>
-    ensures { (nodes : List kind.Node) → IfOk result (λ ended. Does nodes 4 (step (eval list scope (λ v. walk_value v (λ array. Read (λ w. arguments_rest nodes pending.node next (pending.before ++ items_at (cell_at array w)) (CallTarget.Call pending.callee pending.receiver) scope))))) state.old state.new ended) }
+    ensures { (nodes : List kind.Node) → IfOk result (λ ended. Does nodes 4 (step (eval list scope (λ v. walk_value v (λ array. Read (λ w. arguments_rest nodes pending.node next (pending.before ++ items_at (cell_at array w)) pending.target scope))))) state.old state.new ended) }
 {
     let inner = copy_scope(state.alloc, &scope)?;
     if !state.step_down() {
@@ -129,7 +125,7 @@ fn enter_argument(
     next: usize,
     scope: Scope,
 ) -> Result<Next, StepFault>
-    ensures { IfOk result (λ ended. Does (nodes_of tree.now) 4 (Read (λ w. values_of (slice_get w.tree argument.0) argument scope (λ vs. arguments_rest (nodes_of tree.now) pending.node next (pending.before ++ vs) (CallTarget.Call pending.callee pending.receiver) scope))) state.old state.new ended) }
+    ensures { IfOk result (λ ended. Does (nodes_of tree.now) 4 (Read (λ w. values_of (slice_get w.tree argument.0) argument scope (λ vs. arguments_rest (nodes_of tree.now) pending.node next (pending.before ++ vs) pending.target scope))) state.old state.new ended) }
 {
     match spread_of(tree, argument) {
         None => enter_one(state, pending, argument, next, scope),
@@ -137,18 +133,51 @@ fn enter_argument(
     }
 }
 
-// Calls what is called, with all arguments.
-fn finish(state: &mut State, tree: &Tree, pending: Pending, scope: Scope) -> Result<Next, StepFault>
-    ensures { IfOk result (λ ended. Does (nodes_of tree.now) 4 (call pending.callee pending.receiver pending.before (λ v. give v)) state.old state.new ended) }
+// Calls a function with a receiver and arguments.
+fn call(
+    state: &mut State,
+    tree: &Tree,
+    callee: Value,
+    receiver: Value,
+    arguments: Items<Value>,
+) -> Result<Next, StepFault>
+    ensures { IfOk result (λ ended. Does (nodes_of tree.now) 4 (call callee receiver arguments (λ v. give v)) state.old state.new ended) }
 {
-    discard(scope);
-    let callee = pending.callee;
-    let called = call_last(state, tree, &callee, pending.receiver, pending.before);
+    let called = call_last(state, tree, &callee, receiver, arguments);
     discard(callee);
     called
 }
 
-// The arguments of a call from a place on, and then the call.
+// Calls a function as a constructor.
+fn make(
+    state: &mut State,
+    tree: &Tree,
+    callee: Value,
+    arguments: Items<Value>,
+) -> Result<Next, StepFault>
+    ensures { IfOk result (λ ended. Does (nodes_of tree.now) 4 (construct callee arguments (λ v. give v)) state.old state.new ended) }
+{
+    let made = construct(state, tree, &callee, arguments);
+    discard(callee);
+    made
+}
+
+// Does with all arguments what they are for.
+fn finish(
+    state: &mut State,
+    tree: &Tree,
+    target: CallTarget,
+    arguments: Items<Value>,
+) -> Result<Next, StepFault>
+    ensures { IfOk result (λ ended. Does (nodes_of tree.now) 4 (target_call (nodes_of tree.now) target arguments) state.old state.new ended) }
+{
+    match target {
+        CallTarget::Call { callee, receiver } => call(state, tree, callee, receiver, arguments),
+        CallTarget::New { callee } => make(state, tree, callee, arguments),
+    }
+}
+
+// The arguments from a place on, and then what they are for.
 fn arguments_on(
     state: &mut State,
     tree: &Tree,
@@ -159,12 +188,16 @@ fn arguments_on(
 {
     match next_of(items_of(tree, pending.node), pending.next) {
         Some((argument, next)) => enter_argument(state, tree, pending, argument, next, scope),
-        None => finish(state, tree, pending, scope),
+        None => {
+            discard(scope);
+            finish(state, tree, pending.target, pending.before)
+        }
     }
 }
 
-/// The arguments of a call from a place on, one after another, behind those that are evaluated already; then the call,
-/// whose value is that of the row. What can't be called throws once the arguments are evaluated.
+/// The arguments of a call or `new` from a place on, one after another, behind those that are evaluated already; then the
+/// call, or the construction of an object, whose value is that of the row. What can't be called, or is no constructor,
+/// throws once the arguments are evaluated.
 ///
 /// # Errors
 /// `Memory` where there is none; `Dangling` where a location was met that stands nowhere.
@@ -180,7 +213,7 @@ pub fn arguments_from(
     arguments_on(state, tree, pending, scope)
 }
 
-// The call with one argument more before the next.
+// The same with one argument more before the next.
 fn with_value(pending: Pending, value: Value) -> Result<Pending, StepFault>
     ensures { IfOk result (λ more. more ≡ record pending { before = pending.before ++ value ∷ [] }) }
 {
@@ -190,12 +223,11 @@ fn with_value(pending: Pending, value: Value) -> Result<Pending, StepFault>
         node: pending.node,
         next: pending.next,
         before,
-        callee: pending.callee,
-        receiver: pending.receiver,
+        target: pending.target,
     })
 }
 
-// The call with these arguments more before the next.
+// The same with these arguments more before the next.
 fn with_values(pending: Pending, values: Items<Value>) -> Result<Pending, StepFault>
     ensures { IfOk result (λ more. more ≡ record pending { before = pending.before ++ values }) }
 {
@@ -205,33 +237,8 @@ fn with_values(pending: Pending, values: Items<Value>) -> Result<Pending, StepFa
         node: pending.node,
         next: pending.next,
         before,
-        callee: pending.callee,
-        receiver: pending.receiver,
+        target: pending.target,
     })
-}
-
-/// The rest of a frame of a callee that is no property (ECMA-262, 13.3.6.1): the arguments from the first on, and then
-/// the call with the receiver `undefined`.
-///
-/// # Errors
-/// `Memory` where there is none; `Dangling` where a location was met that stands nowhere.
-pub fn callee_value(
-    state: &mut State,
-    tree: &Tree,
-    node: NodeId,
-    scope: Scope,
-    callee: Value,
-) -> Result<Next, StepFault>
-    ensures { IfOk result (λ ended. Does (nodes_of tree.now) 6 (call_rest (nodes_of tree.now) (CallFrame.Callee node scope) callee) state.old state.new ended) }
-{
-    let pending = Pending {
-        node,
-        next: 0,
-        before: Items::new(state.alloc),
-        callee,
-        receiver: Value::Undefined,
-    };
-    arguments_from(state, tree, pending, scope)
 }
 
 /// The rest of a frame of an argument that isn't spread: its value is an argument, and those behind it follow.
@@ -245,7 +252,7 @@ pub fn argument_value(
     scope: Scope,
     value: Value,
 ) -> Result<Next, StepFault>
-    ensures { IfOk result (λ ended. Does (nodes_of tree.now) 6 (call_rest (nodes_of tree.now) (CallFrame.Argument pending.node pending.next false pending.before (CallTarget.Call pending.callee pending.receiver) scope) value) state.old state.new ended) }
+    ensures { IfOk result (λ ended. Does (nodes_of tree.now) 6 (call_rest (nodes_of tree.now) (CallFrame.Argument pending.node pending.next false pending.before pending.target scope) value) state.old state.new ended) }
 {
     let pending = with_value(pending, value)?;
     arguments_from(state, tree, pending, scope)
@@ -259,7 +266,7 @@ fn spread_items(
     scope: Scope,
     array: Loc,
 ) -> Result<Next, StepFault>
-    ensures { IfOk result (λ ended. Does (nodes_of tree.now) 6 (Read (λ w. arguments_rest (nodes_of tree.now) pending.node pending.next (pending.before ++ items_at (cell_at array w)) (CallTarget.Call pending.callee pending.receiver) scope)) state.old state.new ended) }
+    ensures { IfOk result (λ ended. Does (nodes_of tree.now) 6 (Read (λ w. arguments_rest (nodes_of tree.now) pending.node pending.next (pending.before ++ items_at (cell_at array w)) pending.target scope)) state.old state.new ended) }
 {
     let items = items_at(state.alloc, &state.heap, array)?;
     let pending = with_values(pending, items)?;
@@ -278,7 +285,7 @@ pub fn spread_value(
     scope: Scope,
     value: &Value,
 ) -> Result<Next, StepFault>
-    ensures { IfOk result (λ ended. Does (nodes_of tree.now) 6 (call_rest (nodes_of tree.now) (CallFrame.Argument pending.node pending.next true pending.before (CallTarget.Call pending.callee pending.receiver) scope) value.now) state.old state.new ended) }
+    ensures { IfOk result (λ ended. Does (nodes_of tree.now) 6 (call_rest (nodes_of tree.now) (CallFrame.Argument pending.node pending.next true pending.before pending.target scope) value.now) state.old state.new ended) }
 {
     match walk_value(state, value)? {
         Ok(array) => spread_items(state, tree, pending, scope, array),

@@ -6,6 +6,6 @@ mod filling;
 mod rests;
 mod walking;
 
-pub use arguments::{Pending, argument_value, arguments_from, callee_value, spread_value};
+pub use arguments::{Pending, argument_value, arguments_from, spread_value};
 pub use rests::{element_spread, for_of_list};
 pub use walking::{Walking, walk_value};

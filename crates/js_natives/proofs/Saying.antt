@@ -19,7 +19,7 @@ use Rattle.js_machine.specs.declared.state.State.{State}
 use Rattle.js_machine.specs.declared.state.Next.{Next}
 use Rattle.js_machine.specs.Does.{Does, world_of}
 use Rattle.js_machine.proofs.Doing.{does_read_ok}
-use Rattle.js_natives.specs.Arguments.{error_given, message_given, module_in, name_given, named}
+use Rattle.js_natives.specs.Arguments.{by_name, error_given, message_given, module_in, name_given, named}
 
 -- the same program
 pub does_same : (nodes : List Node) (n : ℕ) (p q : Prog ℕ) (old new : State) (r : Result Next StepFault) → p ≡ q → IfOk r (λ next. Does nodes n q old new next) → IfOk r (λ next. Does nodes n p old new next)
@@ -39,11 +39,6 @@ error_by kind (Ref loc ∷ vs) = refl
 pub error_ok : (nodes : List Node) (n : ℕ) (kind : ErrorKind) (arguments : List (Value ℕ)) (given : Option (Option (List ℕ))) (old new : State) (r : Result Next StepFault) → given ≡ message_given arguments → IfOk r (λ next. Does nodes n (error_given kind given) old new next) → IfOk r (λ next. Does nodes n (row_error kind arguments) old new next)
 error_ok nodes n kind arguments given old new r is h =
     rw (error_by kind arguments, ← is) h
-
--- what `require` does with the name that is given
-abbrev pub by_name : Option (List ℕ) → Prog ℕ
-by_name None = throw WrongArgument
-by_name (Some name) = Read (λ w. require_named name (module_of w) w)
 
 pub require_by : (arguments : List (Value ℕ)) → row_require module_of arguments ≡ by_name (name_given arguments)
 unfolding row_require

@@ -6,9 +6,9 @@ use Rattle.world_heap.specs.declared.value.Value.TheVariants.{Undefined, Null, B
 use Rattle.parcel.specs.declared.parcel.ErrorKind.{ErrorKind}
 use Rattle.js_semantics.specs.declared.fault.Fault.TheVariants.{WrongArgument}
 use Rattle.world_kind.specs.declared.WorldKind.{WorldKind}
-use Rattle.js_semantics.specs.Prog.{Prog, give, throw}
-use Rattle.js_semantics.specs.Natives.{error_of, is_module, missing_module, throw_message}
-use Rattle.js_semantics.specs.Realm.{module_place}
+use Rattle.js_semantics.specs.Prog.{Prog, Read, give, throw}
+use Rattle.js_semantics.specs.Natives.{error_of, is_module, missing_module, require_named, throw_message}
+use Rattle.js_semantics.specs.Realm.{module_of, module_place}
 
 -- the location of the module with the calls of Electron
 abbrev pub module_in : HeapView → Option ℕ
@@ -50,3 +50,8 @@ name_given (v ∷ vs) = name_value v
 abbrev pub named : WorldKind → Option ℕ → List ℕ → Prog ℕ
 named kind (Some loc) name = if is_module kind name then give (Ref loc) else throw_message (missing_module name)
 named kind None name = throw_message (missing_module name)
+
+-- what `require` does with the name that is given
+abbrev pub by_name : Option (List ℕ) → Prog ℕ
+by_name None = throw WrongArgument
+by_name (Some name) = Read (λ w. require_named name (module_of w) w)

@@ -1,56 +1,46 @@
 //! Calls of built-in functions.
-ghost use Rattle.std.specs.Prelude.{◌≡◌, ℕ, List, IfOk, Some};
+ghost use Rattle.std.specs.Prelude.{List, IfOk, Some};
 ghost use Rattle.js_tree.specs.declared.node.Node as kind;
 ghost use Rattle.js_semantics.specs.Natives.{native_row};
 ghost use Rattle.js_semantics.specs.Prog.{Native as NativeRequest};
 ghost use Rattle.js_semantics.specs.Realm.{module_of};
 ghost use Rattle.js_semantics.specs.Rows.{row};
 ghost use Rattle.js_machine.specs.Does.{Does};
-ghost use Rattle.js_natives.specs.Arguments.{module_in};
 
 use crate::console::row_console;
 use crate::errors::row_error;
 use crate::require::row_require;
 use js_machine::{Next, State};
 use js_semantics::{Fault, Native, StepFault};
-use world_heap::{Loc, Value};
+use world_heap::Value;
 
 // A call of this built-in function.
-fn called(
-    state: &mut State,
-    electron: Option<Loc>,
-    function: Native,
-    arguments: &[Value],
-) -> Result<Next, StepFault>
-    ensures { (nodes : List kind.Node) (receiver : _) → electron ≡ module_in state.old.heap
-        → IfOk result (λ next. Does nodes 6 (native_row module_of (Some function) receiver arguments.now) state.old state.new next) }
+fn called(state: &mut State, function: Native, arguments: &[Value]) -> Result<Next, StepFault>
+    ensures { (nodes : List kind.Node) (receiver : _) → IfOk result (λ next. Does nodes 6 (native_row module_of (Some function) receiver arguments.now) state.old state.new next) }
 {
     match function {
         Native::Console(level) => row_console(state, level, arguments),
         Native::Error(error) => row_error(state, error, arguments),
-        Native::Require => row_require(state, electron, arguments),
+        Native::Require => row_require(state, arguments),
     }
 }
 
-/// The row of a call of the built-in function with a number (ECMA-262, 20.5.1: errors; Console Standard, 1.1: logging),
-/// where the location of the module with the calls of Electron is given, if the world has one. No such function has a
-/// use for its receiver; a number that no function has throws. The cost is that of the line told, or linear in the
-/// message or name.
+/// The row of a call of the built-in function with a number (ECMA-262, 20.5.1: errors; Console Standard, 1.1: logging).
+/// No such function has a use for its receiver; a number that no function has throws. The cost is that of the line told,
+/// or linear in the message or name.
 ///
 /// # Errors
 /// `Memory` where there is none; `Dangling` where the prototype of an error stands nowhere.
 pub fn native(
     state: &mut State,
-    electron: Option<Loc>,
     id: u16,
     receiver: &Value,
     arguments: &[Value],
 ) -> Result<Next, StepFault>
-    ensures { (nodes : List kind.Node) → electron ≡ module_in state.old.heap
-        → IfOk result (λ next. Does nodes 6 (row (NativeRequest id receiver.now arguments.now)) state.old state.new next) }
+    ensures { (nodes : List kind.Node) → IfOk result (λ next. Does nodes 6 (row (NativeRequest id receiver.now arguments.now)) state.old state.new next) }
 {
     match Native::of(id) {
-        Some(function) => called(state, electron, function, arguments),
+        Some(function) => called(state, function, arguments),
         None => state.throw(Fault::NotAFunction),
     }
 }

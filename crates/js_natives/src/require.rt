@@ -1,19 +1,19 @@
 //! `require`, which gives the module with the calls of Electron.
-ghost use Rattle.std.specs.Prelude.{◌≡◌, ℕ, List, IfOk, MatchOption, None, Some, codes};
+ghost use Rattle.std.specs.Prelude.{◌≡◌, List, IfOk, MatchOption, None, Some, codes};
 ghost use Rattle.js_tree.specs.declared.node.Node as kind;
 ghost use Rattle.js_semantics.specs.Natives.{is_module, missing_module, row_require, throw_message};
 ghost use Rattle.js_semantics.specs.Prog.{End, make_error};
 ghost use Rattle.js_semantics.specs.Properties.{same_text};
 ghost use Rattle.js_semantics.specs.Realm.{module_of};
 ghost use Rattle.js_machine.specs.Does.{Does};
-ghost use Rattle.js_natives.specs.Arguments.{module_in, name_given, name_value, named};
+ghost use Rattle.js_natives.specs.Arguments.{by_name, module_in, name_given, name_value, named};
 
 use js_machine::{Next, State, stopped};
 use js_semantics::{Fault, Outcome, StepFault};
 use parcel::ErrorKind;
 use std::alloc::Global;
 use wl_text::Units;
-use world_heap::{Loc, Value};
+use world_heap::{Heap, Loc, Value};
 use world_kind::WorldKind;
 use world_log::Stop;
 
@@ -32,6 +32,9 @@ const RENDERER: [u16; 17] = [
 const MISSING: [u16; 20] = [
     67, 97, 110, 110, 111, 116, 32, 102, 105, 110, 100, 32, 109, 111, 100, 117, 108, 101, 32, 39,
 ];
+
+/// The place of the module with the calls of Electron among the cells of a heap.
+const MODULE_PLACE: usize = 30;
 
 /// The greatest number of units in the message of an error that is put together.
 const MESSAGE: usize = 65_536;
@@ -162,22 +165,32 @@ fn require_named(state: &mut State, electron: Option<Loc>, name: &Units) -> Resu
     }
 }
 
-/// The row of a call of `require`, where the location of the module with the calls of Electron is given: that module for
-/// its names in a world of this kind, and else an error that tells the name, whose message counts its units. An argument
-/// that is no string throws. The cost is linear in the name.
+// The location of the module with the calls of Electron, where there is one.
+fn module_in(heap: &Heap) -> Option<Loc>
+    ensures { result ≡ module_in heap.now }
+{
+    heap.location(MODULE_PLACE)
+}
+
+// Gives the module of the world where it has this name, or throws.
+fn require_module(state: &mut State, name: &Units) -> Result<Next, StepFault>
+    ensures { (nodes : List kind.Node) → IfOk result (λ next. Does nodes 6 (by_name (Some name.now)) state.old state.new next) }
+{
+    let electron = module_in(&state.heap);
+    require_named(state, electron, name)
+}
+
+/// The row of a call of `require`: the module with the calls of Electron for its names in a world of this kind, and else
+/// an error that tells the name, whose message counts its units. An argument that is no string throws. The cost is linear
+/// in the name.
 ///
 /// # Errors
 /// `Memory` where there is none; `Dangling` where the prototype of errors stands nowhere.
-pub fn row_require(
-    state: &mut State,
-    electron: Option<Loc>,
-    arguments: &[Value],
-) -> Result<Next, StepFault>
-    ensures { (nodes : List kind.Node) → electron ≡ module_in state.old.heap
-        → IfOk result (λ next. Does nodes 6 (row_require module_of arguments.now) state.old state.new next) }
+pub fn row_require(state: &mut State, arguments: &[Value]) -> Result<Next, StepFault>
+    ensures { (nodes : List kind.Node) → IfOk result (λ next. Does nodes 6 (row_require module_of arguments.now) state.old state.new next) }
 {
     match name_given(arguments) {
-        Some(name) => require_named(state, electron, name),
+        Some(name) => require_module(state, name),
         None => state.throw(Fault::WrongArgument),
     }
 }

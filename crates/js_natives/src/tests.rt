@@ -4,7 +4,7 @@ use js_machine::{Control, Next, State};
 use js_semantics::{Outcome, StepFault};
 use std::alloc::{AllocError, Global};
 use wl_text::Units;
-use world_heap::{Heap, Limits, Loc, Pool, Value};
+use world_heap::{Heap, Limits, Pool, Value};
 use world_kind::WorldKind;
 use world_log::Product;
 
@@ -50,9 +50,8 @@ fn shown(alloc: Global, state: &State, next: Next) -> Result<Vec<u8>, AllocError
 // What a call with a text does in a new world.
 fn called(alloc: Global, id: u16, text: &str) -> Result<Vec<u8>, AllocError> {
     let mut state = state_of(alloc)?;
-    let electron: Option<Loc> = None;
     let argument = text_of(alloc, text)?;
-    match native(&mut state, electron, id, &Value::Undefined, &[argument]) {
+    match native(&mut state, id, &Value::Undefined, &[argument]) {
         Ok(next) => shown(alloc, &state, next),
         Err(StepFault::Memory) => Err(AllocError),
         Err(StepFault::Dangling) => Vec::from_slice(alloc, b"dangling"),

@@ -1,46 +1,31 @@
 -- How what is left of a row is put together with the row.
-use Rattle.std.proofs.Common.{◌≡◌, ℕ, List, Option, Some, None, Bool, true, false, if◌then◌else◌, Result, Ok, Err, IfOk, refl, sym, ap, subst, ◌∙◌, arith}
+use Rattle.std.proofs.Common.{◌≡◌, ℕ, List, Option, Some, None, Bool, true, false, if◌then◌else◌, Result, Ok, Err, IfOk, refl, sym, ap, subst, arith}
 use Rattle.std.specs.Prelude.{codes}
-use Rattle.std.proofs.lemmas.Result.{IfOk-weaker}
 use Rattle.world_heap.specs.declared.value.Value.{Value}
 use Rattle.js_tree.specs.declared.node.Node.{Node}
-use Rattle.js_tree.specs.declared.node.NodeId.{NodeId}
-use Rattle.js_tree.specs.declared.node.BinaryOperator.{BinaryOperator}
-use Rattle.js_semantics.specs.declared.scope.Scope.{Scope}
 use Rattle.js_semantics.specs.declared.fault.Fault.TheVariants.{WrongOperand}
 use Rattle.js_semantics.specs.declared.fault.StepFault.{StepFault}
-use Rattle.js_semantics.specs.World.{World, cell_of}
+use Rattle.js_semantics.specs.World.{cell_of}
 use Rattle.js_semantics.specs.Prog.{Prog, Read, throw}
 use Rattle.js_semantics.specs.Access.{get}
 use Rattle.js_semantics.specs.Operators.{Computed}
 use Rattle.js_semantics.specs.Expressions.{compute, is_callable}
 use Rattle.js_machine.specs.declared.state.State.{State}
 use Rattle.js_machine.specs.declared.state.Next.{Next}
-use Rattle.js_machine.specs.declared.frame.Key.{Key}
-use Rattle.js_machine.specs.declared.frame.Use.{Use}
-use Rattle.js_machine.specs.declared.frame.Use.TheVariants as uses
 use Rattle.js_machine.specs.declared.frame.Place.{Place}
-use Rattle.js_machine.specs.declared.frame.Place.TheVariants as places
 use Rattle.js_machine.specs.declared.frame.AfterFrame.{AfterFrame}
-use Rattle.js_machine.specs.declared.frame.AfterFrame.TheVariants as afters
-use Rattle.js_machine.specs.Does.{Does, Moves, world_of}
-use Rattle.js_machine.specs.Frames.{after_rest, key_text, use_rest}
-use Rattle.js_machine.proofs.Doing.{allowing, does_move, does_move_ok, does_read_ok, moves_on}
+use Rattle.js_machine.specs.Does.{Does, world_of}
+use Rattle.js_machine.specs.Frames.{after_rest}
+use Rattle.js_machine.proofs.Doing.{allowing, does_move_ok, does_read_ok}
 use Rattle.js_step_expr.specs.declared.frames.Remaining.{Remaining}
 use Rattle.js_step_expr.specs.declared.frames.Remaining.TheVariants.{Instance}
-use Rattle.js_step_expr.specs.Left.{left_of}
+use Rattle.js_step_expr.specs.Left.{DoesOrComes, left_of}
 use Rattle.js_step_expr.specs.Settling.{Settles}
-use Rattle.js_step_access.specs.declared.usage.Removal.{Removal}
 use Rattle.js_step_access.specs.Instances.{instance_after}
-use Rattle.js_step_access.specs.Removing.{DoesOrRemoves}
 
--- what a row comes to is done, or comes to a removal
-joined : (nodes : List Node) (p q : Prog ℕ) (old mid new : State) (r : Result Next (Removal ℕ)) → Moves nodes p old q mid → DoesOrRemoves nodes q mid new r → DoesOrRemoves nodes p old new r
-joined nodes p q old mid new (Ok next) m h = does_move nodes 6 p q old mid new next m h
-joined nodes p q old mid new (Err removal) m h = moves_on nodes p q _ old mid new m h
-
-pub joined_ok : (nodes : List Node) (p q : Prog ℕ) (old mid new : State) (r : Result (Result Next (Removal ℕ)) StepFault) → Moves nodes p old q mid → IfOk r (λ d. DoesOrRemoves nodes q mid new d) → IfOk r (λ d. DoesOrRemoves nodes p old new d)
-joined_ok nodes p q old mid new r m = IfOk-weaker r _ _ (λ d h. joined nodes p q old mid new d m h)
+-- what a row comes to is done
+pub joined_ok : (nodes : List Node) (p : Prog ℕ) (remaining : Remaining ℕ) (old mid new : State) (r : Result Next StepFault) → DoesOrComes nodes p old mid (Err remaining) → IfOk r (λ next. Does nodes 6 (left_of nodes remaining) mid new next) → IfOk r (λ next. Does nodes 6 p old new next)
+joined_ok nodes p remaining old mid new r m = does_move_ok nodes 6 p (left_of nodes remaining) old mid new r m
 
 -- `instanceof` by whether its right side can be called
 abbrev instance_by : List Node → Value ℕ → Value ℕ → Option (Place ℕ) → Bool → Prog ℕ
@@ -77,9 +62,3 @@ pub computed_ended : (nodes : List Node) (c d : Computed ℕ) (k : Value ℕ →
     → c ≡ d → settled ≡ Err next → Settles nodes (compute c k) k old mid settled → Does nodes 4 (compute d k) old mid next
 computed_ended nodes c d k old mid settled next e is h =
     allowing nodes 2 4 (compute d k) old mid next (omega arith) (subst (λ s. Settles nodes (compute d k) k old mid s) is (subst (λ x. Settles nodes (compute x k) k old mid settled) e h))
-
--- a property is read that is assigned by an operator
-pub assigned_by : (nodes : List Node) (usage : Use) (operator : BinaryOperator) (value : NodeId) (base : Value ℕ) (key : Key) (place : Place ℕ) (scope : Scope ℕ) (old new : State) (next : Next)
-    → usage ≡ uses.AssignBy operator value → place ≡ places.Property base key
-    → Does nodes 6 (get base (key_text nodes key) (λ v. after_rest nodes (afters.AssignBy operator value place scope) v)) old new next → Does nodes 6 (use_rest nodes usage base key scope) old new next
-assigned_by nodes usage operator value base key place scope old new next u p h = rw u (rw p at h)

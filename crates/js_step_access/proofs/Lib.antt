@@ -1,2 +1,4 @@
 mod Joining
 mod Lookups
+mod Inheriting
+mod Removals

@@ -1,15 +1,16 @@
--- What uses a property, or is left to remove it.
-use Rattle.std.specs.Prelude.{ℕ, List, Result, Ok, Err}
-use Rattle.js_tree.specs.declared.node.Node.{Node}
-use Rattle.js_semantics.specs.Prog.{Prog}
-use Rattle.js_semantics.specs.Access.{delete}
-use Rattle.js_machine.specs.declared.state.State.{State}
-use Rattle.js_machine.specs.declared.state.Next.{Next}
-use Rattle.js_machine.specs.Does.{Does, Moves}
-use Rattle.js_machine.specs.Frames.{key_text}
-use Rattle.js_step_access.specs.declared.usage.Removal.{Removal}
+-- What removing a property comes to (ECMA-262, 13.5.1.2).
+use Rattle.std.specs.Prelude.{ℕ, List, Bool, true, false, is_some, if◌then◌else◌}
+use Rattle.world_heap.specs.declared.value.Value.TheVariants.{Bool as Boolean}
+use Rattle.proto_props.specs.Own.{is_length}
+use Rattle.proto_props.specs.Gets.{text_unit}
+use Rattle.js_semantics.specs.declared.fault.Fault.TheVariants.{ReadOnly}
+use Rattle.js_semantics.specs.Prog.{Prog, give, throw}
 
--- A program is done by a step, or comes to the removal of a property.
-abbrev pub DoesOrRemoves : List Node → Prog ℕ → State → State → Result Next (Removal ℕ) → Type 0
-DoesOrRemoves nodes p old new (Ok next) = Does nodes 6 p old new next
-DoesOrRemoves nodes p old new (Err removal) = Moves nodes p old (delete removal.base (key_text nodes removal.key)) new
+-- whether a property of a string stays
+abbrev pub is_kept : List ℕ → List ℕ → Bool
+is_kept text key = if is_length key then true else is_some (text_unit text key)
+
+-- what follows, where the property is gone, and where it stays
+abbrev pub removed : Bool → Prog ℕ
+removed true = give (Boolean true)
+removed false = throw ReadOnly

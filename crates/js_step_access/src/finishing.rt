@@ -3,11 +3,10 @@ ghost use Rattle.std.specs.Prelude.{IfOk};
 ghost use Rattle.js_names.specs.Patterns.{nodes_of};
 ghost use Rattle.js_machine.specs.Does.{Does};
 ghost use Rattle.js_step_expr.specs.Left.{left_of};
-ghost use Rattle.js_step_access.specs.Removing.{DoesOrRemoves};
 
 use crate::instance::instance_of;
 use crate::naming::read_name;
-use crate::usage::{Removal, use_property};
+use crate::usage::use_property;
 use crate::writing::write_place;
 use js_machine::{Next, Place, State};
 use js_semantics::StepFault;
@@ -23,26 +22,19 @@ fn write(state: &mut State, tree: &Tree, place: Place, value: Value) -> Result<N
     write_place(state, tree, place, value, result_value)
 }
 
-/// Does what an operator has left: a name or property is read, a place written, or `instanceof` told. The removal of a
-/// property is left to do.
-pub fn finish(
-    state: &mut State,
-    tree: &Tree,
-    remaining: Remaining,
-) -> Result<Result<Next, Removal>, StepFault>
-    ensures { IfOk result (λ r. DoesOrRemoves (nodes_of tree.now) (left_of (nodes_of tree.now) remaining) state.old state.new r) }
+/// Does what an operator has left: a name or property is read, written or removed, or `instanceof` told.
+pub fn finish(state: &mut State, tree: &Tree, remaining: Remaining) -> Result<Next, StepFault>
+    ensures { IfOk result (λ next. Does (nodes_of tree.now) 6 (left_of (nodes_of tree.now) remaining) state.old state.new next) }
 {
     match remaining {
-        Remaining::Read { node, env, frame } => Ok(Ok(read_name(state, tree, node, env, frame)?)),
+        Remaining::Read { node, env, frame } => read_name(state, tree, node, env, frame),
         Remaining::Property {
             base,
             key,
             usage,
             scope,
         } => use_property(state, tree, usage, base, key, scope),
-        Remaining::Write { place, value } => Ok(Ok(write(state, tree, place, value)?)),
-        Remaining::Instance { left, right, place } => {
-            Ok(Ok(instance_of(state, tree, left, right, place)?))
-        }
+        Remaining::Write { place, value } => write(state, tree, place, value),
+        Remaining::Instance { left, right, place } => instance_of(state, tree, left, right, place),
     }
 }

@@ -1,16 +1,19 @@
 //! The operator `instanceof` (ECMA-262, 13.10.2).
-ghost use Rattle.std.specs.Prelude.{◌≡◌, IfOk, codes};
+ghost use Rattle.std.specs.Prelude.{◌≡◌, IfOk, List, codes};
+ghost use Rattle.js_tree.specs.declared.node.Node as kind;
 ghost use Rattle.js_step_expr.specs.Left.{left_of};
 ghost use Rattle.js_machine.specs.Does.{Does};
 ghost use Rattle.js_machine.specs.Frames.{after_rest};
 ghost use Rattle.js_names.specs.Patterns.{nodes_of};
 ghost use Rattle.js_step_access.specs.Instances.{instance_after};
 
+use crate::inheritance::instance_in;
 use crate::keys::discard;
+use crate::writing::write_place;
 use js_calls::get;
 use js_machine::{AfterFrame, Next, Place, State};
 use js_operators::{is_callable_value, short_text};
-use js_semantics::{Fault, StepFault};
+use js_semantics::{Fault, Outcome, StepFault};
 use js_step_expr::Remaining;
 use js_tree::Tree;
 use std::alloc::Global;
@@ -53,4 +56,48 @@ fn prototype_key(alloc: Global) -> Result<Units, StepFault>
     ensures { IfOk result (λ key. key ≡ codes "prototype") }
 {
     Ok(short_text(alloc, "prototype")?)
+}
+
+/// `instanceof` with the `prototype` of its right side: whether that is on the chain of prototypes above the left side. A
+/// `prototype` that is no object is the error `NotAnObject`. The cost is linear in the chain.
+pub fn after_instance(state: &mut State, left: Value, prototype: Value) -> Result<Next, StepFault>
+    ensures { (nodes : List kind.Node) → IfOk result (λ next. Does nodes 4 (after_rest nodes (AfterFrame.Instance left) prototype) state.old state.new next) }
+{
+    match instance_in(&state.heap, &left, &prototype) {
+        Some(told) => {
+            discard(left);
+            discard(prototype);
+            state.give(Outcome::Normal(Value::Bool(told)))
+        }
+        None => {
+            discard(left);
+            discard(prototype);
+            state.throw(Fault::NotAnObject)
+        }
+    }
+}
+
+/// The same where the result is assigned: it is written first, and then given.
+pub fn after_assign_instance(
+    state: &mut State,
+    tree: &Tree,
+    left: Value,
+    place: Place,
+    prototype: Value,
+) -> Result<Next, StepFault>
+    ensures { IfOk result (λ next. Does (nodes_of tree.now) 4 (after_rest (nodes_of tree.now) (AfterFrame.AssignInstance left place) prototype) state.old state.new next) }
+{
+    match instance_in(&state.heap, &left, &prototype) {
+        Some(told) => {
+            discard(left);
+            discard(prototype);
+            write_place(state, tree, place, Value::Bool(told), Value::Bool(told))
+        }
+        None => {
+            discard(left);
+            discard(prototype);
+            discard(place);
+            state.throw(Fault::NotAnObject)
+        }
+    }
 }

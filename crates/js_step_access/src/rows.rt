@@ -3,16 +3,15 @@ ghost use Rattle.std.specs.Prelude.{IfOk};
 ghost use Rattle.js_names.specs.Patterns.{nodes_of};
 ghost use Rattle.js_semantics.specs.Expressions.{row_assign_with, row_typeof, row_update};
 ghost use Rattle.js_machine.specs.Frames.{operand_rest, property_rest};
-ghost use Rattle.js_step_access.specs.Removing.{DoesOrRemoves};
+ghost use Rattle.js_machine.specs.Does.{Does};
 
 use crate::finishing::finish;
-use crate::usage::Removal;
 use js_machine::{Next, OperandFrame, PropertyFrame, State};
 use js_semantics::{Scope, StepFault};
 use js_tree::{BinaryOperator, NodeId, Tree, UpdateOperator};
 use world_heap::Value;
 
-/// `++` and `--` (ECMA-262, 13.4). The removal of a property is left to do.
+/// `++` and `--` (ECMA-262, 13.4).
 pub fn row_update(
     state: &mut State,
     tree: &Tree,
@@ -20,16 +19,16 @@ pub fn row_update(
     target: NodeId,
     before: bool,
     scope: Scope,
-) -> Result<Result<Next, Removal>, StepFault>
-    ensures { IfOk result (λ r. DoesOrRemoves (nodes_of tree.now) (row_update operator target before scope) state.old state.new r) }
+) -> Result<Next, StepFault>
+    ensures { IfOk result (λ next. Does (nodes_of tree.now) 6 (row_update operator target before scope) state.old state.new next) }
 {
     match js_step_expr::row_update(state, tree, operator, target, before, scope)? {
-        Ok(next) => Ok(Ok(next)),
+        Ok(next) => Ok(next),
         Err(remaining) => finish(state, tree, remaining),
     }
 }
 
-/// An assignment by an operator (ECMA-262, 13.15.2). The removal of a property is left to do.
+/// An assignment by an operator (ECMA-262, 13.15.2).
 pub fn row_assign_with(
     state: &mut State,
     tree: &Tree,
@@ -37,56 +36,56 @@ pub fn row_assign_with(
     target: NodeId,
     value: NodeId,
     scope: Scope,
-) -> Result<Result<Next, Removal>, StepFault>
-    ensures { IfOk result (λ r. DoesOrRemoves (nodes_of tree.now) (row_assign_with operator target value scope) state.old state.new r) }
+) -> Result<Next, StepFault>
+    ensures { IfOk result (λ next. Does (nodes_of tree.now) 6 (row_assign_with operator target value scope) state.old state.new next) }
 {
     match js_step_expr::row_assign_with(state, tree, operator, target, value, scope)? {
-        Ok(next) => Ok(Ok(next)),
+        Ok(next) => Ok(next),
         Err(remaining) => finish(state, tree, remaining),
     }
 }
 
-/// `typeof` (ECMA-262, 13.5.3). The removal of a property is left to do.
+/// `typeof` (ECMA-262, 13.5.3).
 pub fn row_typeof(
     state: &mut State,
     tree: &Tree,
     operand: NodeId,
     scope: Scope,
-) -> Result<Result<Next, Removal>, StepFault>
-    ensures { IfOk result (λ r. DoesOrRemoves (nodes_of tree.now) (row_typeof operand scope) state.old state.new r) }
+) -> Result<Next, StepFault>
+    ensures { IfOk result (λ next. Does (nodes_of tree.now) 6 (row_typeof operand scope) state.old state.new next) }
 {
     match js_step_expr::row_typeof(state, tree, operand, scope)? {
-        Ok(next) => Ok(Ok(next)),
+        Ok(next) => Ok(next),
         Err(remaining) => finish(state, tree, remaining),
     }
 }
 
-/// What is done with the value of an operand. The removal of a property is left to do.
+/// What is done with the value of an operand.
 pub fn operand(
     state: &mut State,
     tree: &Tree,
     frame: OperandFrame,
     value: Value,
-) -> Result<Result<Next, Removal>, StepFault>
-    ensures { IfOk result (λ r. DoesOrRemoves (nodes_of tree.now) (operand_rest (nodes_of tree.now) frame value) state.old state.new r) }
+) -> Result<Next, StepFault>
+    ensures { IfOk result (λ next. Does (nodes_of tree.now) 6 (operand_rest (nodes_of tree.now) frame value) state.old state.new next) }
 {
     match js_step_expr::operand(state, tree, frame, value)? {
-        Ok(next) => Ok(Ok(next)),
+        Ok(next) => Ok(next),
         Err(remaining) => finish(state, tree, remaining),
     }
 }
 
-/// What is done with the value of a part of a property. The removal of a property is left to do.
+/// What is done with the value of a part of a property.
 pub fn property(
     state: &mut State,
     tree: &Tree,
     frame: PropertyFrame,
     value: Value,
-) -> Result<Result<Next, Removal>, StepFault>
-    ensures { IfOk result (λ r. DoesOrRemoves (nodes_of tree.now) (property_rest (nodes_of tree.now) frame value) state.old state.new r) }
+) -> Result<Next, StepFault>
+    ensures { IfOk result (λ next. Does (nodes_of tree.now) 6 (property_rest (nodes_of tree.now) frame value) state.old state.new next) }
 {
     match js_step_expr::property(state, frame, value)? {
-        Ok(next) => Ok(Ok(next)),
+        Ok(next) => Ok(next),
         Err(remaining) => finish(state, tree, remaining),
     }
 }

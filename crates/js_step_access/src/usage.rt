@@ -1,27 +1,19 @@
 //! What is done with a property, once its object and key are evaluated (ECMA-262, 13.3, 13.4 and 13.15).
 ghost use Rattle.std.specs.Prelude.{◌≡◌, IfOk};
-ghost use Rattle.js_semantics.specs.Access.{get};
+ghost use Rattle.js_semantics.specs.Access.{delete, get};
 ghost use Rattle.js_machine.specs.Does.{Does};
 ghost use Rattle.js_machine.specs.Frames.{after_rest, key_text, use_rest};
 ghost use Rattle.js_names.specs.Patterns.{nodes_of};
-ghost use Rattle.js_step_access.specs.Removing.{DoesOrRemoves};
 
 use crate::keys::{copy_key, discard, key_units};
+use crate::removal::delete;
 use js_calls::get;
 use js_machine::{AfterFrame, Key, Next, OperandFrame, Place, State, Use};
 use js_semantics::{Scope, StepFault};
 use js_step_expr::enter_operand;
-use js_tree::Tree;
+use js_tree::{BinaryOperator, NodeId, Tree, UpdateOperator};
 use std::alloc::Global;
-use world_heap::{Loc, Value};
-
-/// The removal of a property (ECMA-262, 13.5.1), which is left to do.
-#[derive(Drop)]
-pub struct Removal<L = Loc> {
-    /// The value whose property it is.
-    pub base: Value<L>,
-    pub key: Key,
-}
+use world_heap::Value;
 
 // Reads a property under a key, over what follows.
 fn read(
@@ -52,7 +44,81 @@ fn place_of(alloc: Global, base: &Value, key: &Key) -> Result<Place, StepFault>
     Ok(Place::Property { base, key })
 }
 
-/// What is done with a property: it is read, or first the value that is assigned is entered. Its removal is left to do.
+// Removes a property under a key.
+fn remove(state: &mut State, tree: &Tree, base: &Value, key: &Key) -> Result<Next, StepFault>
+    ensures { IfOk result (λ next. Does (nodes_of tree.now) 6 (delete base.now (key_text (nodes_of tree.now) key.now)) state.old state.new next) }
+{
+    match key_units(tree, key) {
+        Some(text) => delete(state, base, text),
+        None => Err(StepFault::Dangling),
+    }
+}
+
+// Reads a property that is updated.
+fn read_for_update(
+    state: &mut State,
+    tree: &Tree,
+    operator: UpdateOperator,
+    before: bool,
+    base: Value,
+    key: Key,
+    scope: Scope,
+) -> Result<Next, StepFault>
+    ensures { IfOk result (λ next. Does (nodes_of tree.now) 6 (use_rest (nodes_of tree.now) (Use.Update operator before) base key scope) state.old state.new next) }
+{
+    discard(scope);
+    let place = place_of(state.alloc, &base, &key)?;
+    let frame = AfterFrame::Update {
+        operator,
+        before,
+        place,
+    };
+    read(state, tree, base, &key, frame)
+}
+
+// Reads a property that is assigned by an operator.
+fn read_for_assignment(
+    state: &mut State,
+    tree: &Tree,
+    operator: BinaryOperator,
+    value: NodeId,
+    base: Value,
+    key: Key,
+    scope: Scope,
+) -> Result<Next, StepFault>
+    ensures { IfOk result (λ next. Does (nodes_of tree.now) 6 (use_rest (nodes_of tree.now) (Use.AssignBy operator value) base key scope) state.old state.new next) }
+{
+    let place = place_of(state.alloc, &base, &key)?;
+    let frame = AfterFrame::AssignBy {
+        operator,
+        value,
+        place,
+        scope,
+    };
+    read(state, tree, base, &key, frame)
+}
+
+// Reads a property that is called, with its object as the receiver.
+fn read_for_call(
+    state: &mut State,
+    tree: &Tree,
+    node: NodeId,
+    base: Value,
+    key: Key,
+    scope: Scope,
+) -> Result<Next, StepFault>
+    ensures { IfOk result (λ next. Does (nodes_of tree.now) 6 (use_rest (nodes_of tree.now) (Use.Call node) base key scope) state.old state.new next) }
+{
+    let receiver = base.copy(state.alloc)?;
+    let frame = AfterFrame::Callee {
+        node,
+        base: receiver,
+        scope,
+    };
+    read(state, tree, base, &key, frame)
+}
+
+/// What is done with a property: it is read or removed, or first the value that is assigned is entered.
 pub fn use_property(
     state: &mut State,
     tree: &Tree,
@@ -60,50 +126,28 @@ pub fn use_property(
     base: Value,
     key: Key,
     scope: Scope,
-) -> Result<Result<Next, Removal>, StepFault>
-    ensures { IfOk result (λ r. DoesOrRemoves (nodes_of tree.now) (use_rest (nodes_of tree.now) usage base key scope) state.old state.new r) }
+) -> Result<Next, StepFault>
+    ensures { IfOk result (λ next. Does (nodes_of tree.now) 6 (use_rest (nodes_of tree.now) usage base key scope) state.old state.new next) }
 {
     match usage {
         Use::Get => {
             discard(scope);
-            Ok(Ok(read(state, tree, base, &key, AfterFrame::Give)?))
+            read(state, tree, base, &key, AfterFrame::Give)
         }
         Use::Update { operator, before } => {
-            discard(scope);
-            let place = place_of(state.alloc, &base, &key)?;
-            let frame = AfterFrame::Update {
-                operator,
-                before,
-                place,
-            };
-            Ok(Ok(read(state, tree, base, &key, frame)?))
+            read_for_update(state, tree, operator, before, base, key, scope)
         }
         Use::Delete => {
             discard(scope);
-            Ok(Err(Removal { base, key }))
+            remove(state, tree, &base, &key)
         }
         Use::Assign { value } => {
             let place = Place::Property { base, key };
-            Ok(Ok(enter_operand(state, OperandFrame::AssignValue { place }, value, scope)?))
+            enter_operand(state, OperandFrame::AssignValue { place }, value, scope)
         }
         Use::AssignBy { operator, value } => {
-            let place = place_of(state.alloc, &base, &key)?;
-            let frame = AfterFrame::AssignBy {
-                operator,
-                value,
-                place,
-                scope,
-            };
-            Ok(Ok(read(state, tree, base, &key, frame)?))
+            read_for_assignment(state, tree, operator, value, base, key, scope)
         }
-        Use::Call { node } => {
-            let receiver = base.copy(state.alloc)?;
-            let frame = AfterFrame::Callee {
-                node,
-                base: receiver,
-                scope,
-            };
-            Ok(Ok(read(state, tree, base, &key, frame)?))
-        }
+        Use::Call { node } => read_for_call(state, tree, node, base, key, scope),
     }
 }

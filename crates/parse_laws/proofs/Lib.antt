@@ -21,4 +21,10 @@ pub mod Stated
 pub mod Headed
 pub mod Nested
 pub mod Whole
+pub mod Ahead
+pub mod Kinded
+pub mod Kindred
+pub mod Followed
+pub mod Scripts
+pub mod Texts
 pub mod Rows

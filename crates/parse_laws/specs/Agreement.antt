@@ -2,6 +2,7 @@
 use Rattle.std.specs.Prelude.{◌≡◌, ℕ, List, [], Ok}
 use Rattle.grammar.specs.Grammar.{Tree, token, entry, Language, Derives, Spells}
 use Rattle.js_token.specs.declared.token.Token.{Token}
+use Rattle.js_token.specs.Tokens.{tokens_of}
 use Rattle.js_tree.specs.Nodes.{Nodes}
 use Rattle.js_tree.specs.declared.node.Node.TheVariants as made
 use Rattle.js_grammar.specs.Script.{rules, heads, any, item, nesting}
@@ -34,3 +35,12 @@ AreItems tokens rest items = Spells language (Derives language nesting) (any ite
 abbrev pub ParsesDerived : Type 0
 ParsesDerived = (tokens : List Token) (nodes : Nodes) → parsed tokens ≡ Ok nodes
     → (items : Tree Token) × (rest : List Token) × AreItems tokens rest items × (symbol_of rest ≡ s.End) × (nodes ≡ script_nodes (place_at tokens) items)
+
+-- What is a script by its rules is parsed, to the nodes of its derivation.
+abbrev pub ParsesScripts : Type 0
+ParsesScripts = (tokens : List Token) (tree : Tree Token) → IsScript tokens tree → parsed tokens ≡ Ok (nodes_of nesting tree)
+
+-- What is parsed of a text's tokens is a script by its rules, and the nodes are those of its derivation.
+abbrev pub ParsesTexts : Type 0
+ParsesTexts = (bytes : List ℕ) (tokens : List Token) (nodes : Nodes) → tokens_of bytes ≡ Ok tokens → parsed tokens ≡ Ok nodes
+    → (tree : Tree Token) × IsScript tokens tree × (nodes ≡ nodes_of nesting tree)

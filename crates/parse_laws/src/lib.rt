@@ -5,7 +5,7 @@
 //! depth by depth: both read the same, or neither does. `proofs/Rows` has whole scripts, their faults included.
 #![tactic(auto)]
 
-ghost use Rattle.parse_laws.specs.Agreement.{HasOneList, ParsesDerived};
+ghost use Rattle.parse_laws.specs.Agreement.{HasOneList, ParsesDerived, ParsesScripts, ParsesTexts};
 
 /// What the parser reads has a derivation, and the tree's nodes are those of that derivation (ECMA-262, 16.1): the items
 /// of the script, up to the end of the text, by the grammar's rules, with parts nested at most to the limit.
@@ -16,4 +16,16 @@ pub fn what_is_parsed_is_derived()
 /// A script has one list of nodes, by whichever derivation (ECMA-262, 5.1.4).
 pub fn one_list_of_nodes()
     ensures { HasOneList }
+{}
+
+/// What is a script by the grammar's rules, with parts nested at most to the limit, is parsed, and the tree's nodes are
+/// those of its derivation (ECMA-262, 16.1).
+pub fn what_is_derived_is_parsed()
+    ensures { ParsesScripts }
+{}
+
+/// What is parsed of a text's tokens is a script by the grammar's rules, and the tree's nodes are those of its
+/// derivation (ECMA-262, 16.1).
+pub fn what_is_parsed_of_a_text_is_derived()
+    ensures { ParsesTexts }
 {}

@@ -1,5 +1,4 @@
 use Rattle.std.proofs.Common.{false, true, ◌++◌, arith}
-use Rattle.js_machine.specs.declared.frame.CallTarget.TheVariants as targets
 use Rattle.js_semantics.specs.World.{cell_at}
 use Rattle.js_semantics.specs.Prog.{Read, Step, eval}
 use Rattle.js_semantics.specs.Iteration.{items_at, walk_value}
@@ -16,4 +15,4 @@ returns-then-not-step_down c nodes =
 pub returns : goal.returns
 returns c nodes =
     let h : StepsDown c.args.state.now c.step_down.new.self true = rw c.if-not-step_down.false at c.step_down.ensures in
-    does_step_ok nodes 4 (eval c.args.list c.args.scope (λ v. walk_value v (λ array. Read (λ w. arguments_rest nodes c.args.pending.node c.args.next (c.args.pending.before ++ items_at (cell_at array w)) (targets.Call c.args.pending.callee c.args.pending.receiver) c.args.scope)))) c.args.state.now c.step_down.new.self c.enter.new.self c.enter.result h (rw (c.in_ok-inner.ensures, c.argument_frame-frame.ensures) at (c.enter.ensures.some nodes))
+    does_step_ok nodes 4 (eval c.args.list c.args.scope (λ v. walk_value v (λ array. Read (λ w. arguments_rest nodes c.args.pending.node c.args.next (c.args.pending.before ++ items_at (cell_at array w)) c.args.pending.target c.args.scope)))) c.args.state.now c.step_down.new.self c.enter.new.self c.enter.result h (rw (c.in_ok-inner.ensures, c.argument_frame-frame.ensures) at (c.enter.ensures.some nodes))

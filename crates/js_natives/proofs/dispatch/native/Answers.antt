@@ -5,7 +5,7 @@ use Rattle.js_natives.proofs.Saying.{does_same, native_by}
 use Rattle.js_natives.proofs.dispatch.native.Goals as goal
 
 pub returns-in-Some : goal.returns-in-Some
-returns-in-Some c nodes is = does_same nodes 6 _ _ c.args.state.now c.called.new.state c.called.result (native_by c.args.id c.args.receiver.now c.args.arguments.now ∙ ap (λ f. native_row module_of f c.args.receiver.now c.args.arguments.now) (sym c.of.ensures ∙ c.in-Some.is)) (c.called.ensures nodes c.args.receiver.now is)
+returns-in-Some c nodes = does_same nodes 6 _ _ c.args.state.now c.called.new.state c.called.result (native_by c.args.id c.args.receiver.now c.args.arguments.now ∙ ap (λ f. native_row module_of f c.args.receiver.now c.args.arguments.now) (sym c.of.ensures ∙ c.in-Some.is)) (c.called.ensures nodes c.args.receiver.now)
 
 pub returns-in-None : goal.returns-in-None
-returns-in-None c nodes is = does_same nodes 6 _ _ c.args.state.now c.throw.new.self c.throw.result (native_by c.args.id c.args.receiver.now c.args.arguments.now ∙ ap (λ f. native_row module_of f c.args.receiver.now c.args.arguments.now) (sym c.of.ensures ∙ c.in-None.is)) (c.throw.ensures.many nodes)
+returns-in-None c nodes = does_same nodes 6 _ _ c.args.state.now c.throw.new.self c.throw.result (native_by c.args.id c.args.receiver.now c.args.arguments.now ∙ ap (λ f. native_row module_of f c.args.receiver.now c.args.arguments.now) (sym c.of.ensures ∙ c.in-None.is)) (c.throw.ensures.many nodes)

@@ -1,0 +1,11 @@
+use Rattle.js_names.specs.Patterns.{nodes_of}
+use Rattle.js_semantics.specs.Statements.{pattern_of}
+use Rattle.js_patterns.proofs.Destructuring.{row_ok}
+use Rattle.js_patterns.proofs.binding.bind_pattern.Goals as goal
+
+pub returns-in-Some-clause-row : goal.returns-in-Some-clause-row
+returns-in-Some-clause-row c = row_ok (nodes_of c.args.tree.now) c.args.node c.args.value c.args.scope _ _ _ (rw c.in-Some.ensures (c.bind_kind.ensures c.in-Some.ensures))
+
+pub returns-in-None-clause-row : goal.returns-in-None-clause-row
+unfolding pattern_of
+returns-in-None-clause-row c = row_ok (nodes_of c.args.tree.now) c.args.node c.args.value c.args.scope _ _ _ (rw c.in-None.ensures (c.done.ensures (nodes_of c.args.tree.now)))

@@ -1,0 +1,20 @@
+use Rattle.std.proofs.Common.{refl, sym, ◌∙◌}
+use Rattle.js_names.specs.Patterns.{nodes_of}
+use Rattle.js_machine.specs.declared.state.State.{State}
+use Rattle.js_machine.specs.declared.state.Control.TheVariants.{AtRest}
+use Rattle.js_step.proofs.Entering.{again_next, member_next, native_next, script_next}
+use Rattle.js_step.proofs.stepping.step.Goals as goal
+
+pub returns-in-Script : goal.returns-in-Script
+returns-in-Script c = script_next (nodes_of c.args.tree.now) c.args.state.now _ _ c.in-Script.node _ (sym c.replace-control.ensures.value ∙ c.in-Script.is) refl c.row_script.ensures
+
+pub returns-in-Member : goal.returns-in-Member
+returns-in-Member c = member_next (nodes_of c.args.tree.now) c.args.state.now _ _ c.in-Member.node c.in-Member.object c.in-Member.scope _ (sym c.replace-control.ensures.value ∙ c.in-Member.is) refl c.row_member.ensures
+
+pub returns-in-Native : goal.returns-in-Native
+returns-in-Native c = native_next (nodes_of c.args.tree.now) c.args.state.now _ _ c.in-Native.id c.in-Native.receiver c.in-Native.arguments _ (sym c.replace-control.ensures.value ∙ c.in-Native.is) refl (rw c.as_slice.ensures at (c.native.ensures (nodes_of c.args.tree.now)))
+
+pub returns-in-AtRest : goal.returns-in-AtRest
+returns-in-AtRest c =
+    let s : State = c.args.state.now in
+    again_next (nodes_of c.args.tree.now) s (record s { control = c.replace-control.new.dest }) c.rest.new.state (AtRest c.in-AtRest.mode) _ (sym c.replace-control.ensures.value ∙ c.in-AtRest.is) refl (c.rest.ensures (nodes_of c.args.tree.now))

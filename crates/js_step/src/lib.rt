@@ -1,0 +1,14 @@
+//! One turn of the machine, and what a delivery comes to, from its coming to the next wait.
+#![tactic(auto)]
+
+mod afters;
+mod frames;
+mod nodes;
+mod operands;
+mod operators;
+mod resuming;
+mod stepping;
+mod values;
+
+pub use resuming::resume;
+pub use stepping::step;

@@ -1,0 +1,52 @@
+//! What a delivery comes to, up to the next wait.
+ghost use Rattle.std.specs.Prelude.{◌≡◌, ◌++◌, true, OnOk};
+ghost use Rattle.js_names.specs.Patterns.{nodes_of};
+ghost use Rattle.js_machine.specs.Does.{does_await, made};
+ghost use Rattle.js_step.specs.Resuming.{ResumesBehind};
+
+use crate::stepping::step;
+use js_machine::{Next, State};
+use js_semantics::StepFault;
+use js_tree::Tree;
+use world_log::{Delivery, Product};
+
+// Puts what a step has made behind the products. For want of memory it is lost, and they stay.
+fn put(out: &mut Vec<Product>, next: Next) -> Result<(), StepFault>
+    ensures { OnOk result (out.new.items ≡ out.old.items ++ made next) }
+{
+    match next {
+        Next::Go => Ok(()),
+        Next::Made(product) => {
+            out.push(product)?;
+            Ok(())
+        }
+    }
+}
+
+/// Takes a delivery, `fresh` where it is the first in its task, and makes all turns up to where the world waits for the
+/// next one or has stopped (ECMA-262, 16.1.6 and 9.5). What it makes is put behind the products in `out`, in its order.
+/// The cost is that of the turns, of which there are at most 32 for each step and place that is left, and some more.
+///
+/// Condition: the delivery may come.
+///
+/// # Errors
+/// `Memory` where there is none; `Dangling` where a location was met that stands nowhere. The state is then that of no
+/// world any more.
+pub fn resume(
+    state: &mut State,
+    tree: &Tree,
+    fresh: bool,
+    delivery: Delivery,
+    out: &mut Vec<Product>,
+) -> Result<(), StepFault>
+    requires { does_await state.old delivery ≡ true }
+    ensures { OnOk result (ResumesBehind (nodes_of tree.now) (record { fresh = fresh; what = delivery }) state.old out.old.items out.new.items state.new) }
+{
+    let next = state.receive(tree, fresh, delivery)?;
+    put(out, next)?;
+    'turns: while state.is_running() {
+        let next = step(state, tree)?;
+        put(out, next)?;
+    }
+    Ok(())
+}

@@ -1,0 +1,133 @@
+//! What follows the callee, the arguments and the parameters of a call (ECMA-262, 13.3.6.2, 13.3.8.1 and 10.2.11).
+ghost use Rattle.std.specs.Prelude.{[], IfOk};
+ghost use Rattle.js_names.specs.Patterns.{nodes_of};
+ghost use Rattle.js_machine.specs.Does.{Does};
+ghost use Rattle.js_machine.specs.Frames.{after_rest, arguments_rest, call_rest};
+
+use js_calls::{parameter_bound, parameter_default, rest_bound};
+use js_iterate::{Pending, argument_value, arguments_from, spread_value};
+use js_machine::{AfterFrame, CallFrame, CallTarget, Next, State};
+use js_semantics::{Scope, StepFault};
+use js_tree::{NodeId, Tree};
+use sqlite_items::Items;
+use world_heap::Value;
+
+// Lets a value go. A generic function keeps the cases of its drop out of its callers' proofs.
+fn discard<T: Drop>(_value: T) {}
+
+// The arguments of a node from the first on, and then what they are for.
+fn all_arguments(
+    state: &mut State,
+    tree: &Tree,
+    node: NodeId,
+    target: CallTarget,
+    scope: Scope,
+) -> Result<Next, StepFault>
+    ensures some { IfOk result (λ next. Does (nodes_of tree.now) 4 (arguments_rest (nodes_of tree.now) node 0 [] target scope) state.old state.new next) }
+    ensures many { IfOk result (λ next. Does (nodes_of tree.now) 6 (arguments_rest (nodes_of tree.now) node 0 [] target scope) state.old state.new next) }
+{
+    let pending = Pending {
+        node,
+        next: 0,
+        before: Items::new(state.alloc),
+        target,
+    };
+    arguments_from(state, tree, pending, scope)
+}
+
+// The value of an argument, or of the list of a spread.
+fn argument(
+    state: &mut State,
+    tree: &Tree,
+    pending: Pending,
+    spread: bool,
+    scope: Scope,
+    value: Value,
+) -> Result<Next, StepFault>
+    ensures { IfOk result (λ next. Does (nodes_of tree.now) 6 (call_rest (nodes_of tree.now) (CallFrame.Argument pending.node pending.next spread pending.before pending.target scope) value) state.old state.new next) }
+{
+    if spread {
+        spread_value(state, tree, pending, scope, &value)
+    } else {
+        argument_value(state, tree, pending, scope, value)
+    }
+}
+
+/// What is left of a call, once a part of it has a value: behind the callee the arguments; behind an argument those that
+/// follow it, and then the call, or the construction of an object, which is an error where the callee can't be called so;
+/// behind a parameter's default its binding; behind a binding the parameters that follow, and the body.
+pub fn call_frame(
+    state: &mut State,
+    tree: &Tree,
+    frame: CallFrame,
+    value: Value,
+) -> Result<Next, StepFault>
+    ensures { IfOk result (λ made. Does (nodes_of tree.now) 6 (call_rest (nodes_of tree.now) frame value) state.old state.new made) }
+{
+    match frame {
+        CallFrame::Callee { node, scope } => {
+            let target = CallTarget::Call {
+                callee: value,
+                receiver: Value::Undefined,
+            };
+            all_arguments(state, tree, node, target, scope)
+        }
+        CallFrame::NewCallee { node, scope } => {
+            all_arguments(state, tree, node, CallTarget::New { callee: value }, scope)
+        }
+        CallFrame::Argument {
+            node,
+            next,
+            spread,
+            done,
+            target,
+            scope,
+        } => {
+            let pending = Pending {
+                node,
+                next,
+                before: done,
+                target,
+            };
+            argument(state, tree, pending, spread, scope, value)
+        }
+        CallFrame::ParameterDefault {
+            node,
+            at,
+            arguments,
+            scope,
+        } => parameter_default(state, tree, node, at, arguments, scope, value),
+        CallFrame::ParameterBound {
+            node,
+            next,
+            arguments,
+            scope,
+        } => {
+            discard(value);
+            parameter_bound(state, tree, node, next, arguments, scope)
+        }
+        CallFrame::RestBound { node, scope } => {
+            discard(value);
+            rest_bound(state, tree, node, scope)
+        }
+    }
+}
+
+/// The callee of a call was read from an object (ECMA-262, 13.3.6.2): the arguments, and then the call with the object as
+/// its receiver.
+pub fn after_callee(
+    state: &mut State,
+    tree: &Tree,
+    node: NodeId,
+    base: Value,
+    scope: Scope,
+    callee: Value,
+) -> Result<Next, StepFault>
+    ensures { IfOk result (λ next. Does (nodes_of tree.now) 4 (after_rest (nodes_of tree.now) (AfterFrame.Callee node base scope) callee) state.old state.new next) }
+{
+    let target = CallTarget::Call {
+        callee,
+        receiver: base,
+    };
+    all_arguments(state, tree, node, target, scope)
+}

@@ -1,0 +1,111 @@
+//! Scripts of expressions.
+use crate::row::Row;
+use world_kind::WorldKind;
+
+pub(crate) const EXPRESSIONS: [Row; 15] = [
+    Row {
+        kind: WorldKind::Main,
+        text: "console.log(null, true, false, undefined, \"a\", this === globalThis);",
+        limits: [14, 1, 1, 32],
+        log: "console log \"null true false undefined a true\"\nrest 0",
+        told: [Some(0), None, None, Some(0)],
+    },
+    Row {
+        kind: WorldKind::Main,
+        text: "console.log(7 - 9, 3 * 4, 8 / 2, 7 % 3, -7 % 3, -(5), +5);",
+        limits: [26, 1, 1, 17],
+        log: "console log \"-2 12 4 1 -1 -5 5\"\nrest 0",
+        told: [Some(0), None, None, Some(0)],
+    },
+    Row {
+        kind: WorldKind::Main,
+        text: "console.log(6 & 3, 6 | 3, 6 ^ 3, ~5, 1 << 4, -9 >> 1, -1 >>> 28);",
+        limits: [28, 1, 1, 17],
+        log: "console log \"2 7 5 -6 16 -5 15\"\nrest 0",
+        told: [Some(0), None, None, Some(0)],
+    },
+    Row {
+        kind: WorldKind::Main,
+        text: "console.log(1 < 2, \"b\" < \"a\", 2 >= 3, \"a\" <= \"ab\", 2 > 1);",
+        limits: [21, 1, 1, 26],
+        log: "console log \"true false false true true\"\nrest 0",
+        told: [Some(0), None, None, Some(0)],
+    },
+    Row {
+        kind: WorldKind::Main,
+        text: "const o = {}; console.log(1 === 1, \"a\" === \"b\", o === o, {} === o, null !== undefined);",
+        limits: [24, 3, 4, 26],
+        log: "console log \"true false true false true\"\nrest 0",
+        told: [Some(0), Some(0), Some(0), Some(0)],
+    },
+    Row {
+        kind: WorldKind::Main,
+        text: "console.log(\"a\" + 1, 1 + \"b\", \"x\" + null + true, \"ab\".length);",
+        limits: [19, 1, 1, 35],
+        log: "console log \"a1 1b xnulltrue 2\"\nrest 0",
+        told: [Some(0), None, None, Some(0)],
+    },
+    Row {
+        kind: WorldKind::Main,
+        text: "console.log(0 || \"a\", 1 && 2, null ?? 3, 0 ?? 4, !1, void 5, 1 ? 2 : 3);",
+        limits: [24, 1, 1, 25],
+        log: "console log \"a 2 3 0 false undefined 2\"\nrest 0",
+        told: [Some(0), None, None, Some(0)],
+    },
+    Row {
+        kind: WorldKind::Main,
+        text: "let x = 1; console.log((x = 2, x + 1), x);",
+        limits: [17, 1, 2, 3],
+        log: "console log \"3 2\"\nrest 0",
+        told: [Some(0), None, Some(0), Some(0)],
+    },
+    Row {
+        kind: WorldKind::Main,
+        text: "const n = 3; console.log(`a${n}b${n + 1}c`, `z`);",
+        limits: [15, 1, 2, 13],
+        log: "console log \"a3b4c z\"\nrest 0",
+        told: [Some(0), None, Some(0), Some(0)],
+    },
+    Row {
+        kind: WorldKind::Main,
+        text: "let i = 1; const o = {k: 5}; console.log(i++, ++i, i--, --i, o.k++, o.k, ++o[\"k\"]);",
+        limits: [31, 2, 5, 13],
+        log: "console log \"1 3 3 1 5 6 7\"\nrest 0",
+        told: [Some(0), Some(0), Some(0), Some(0)],
+    },
+    Row {
+        kind: WorldKind::Main,
+        text: "let s = 2; const o = {k: 3}; s += 4; s *= 3; s -= 1; s %= 10; o.k += 1; o[\"k\"] *= 2; console.log(s, o.k);",
+        limits: [44, 2, 5, 3],
+        log: "console log \"7 8\"\nrest 0",
+        told: [Some(0), Some(0), Some(0), Some(0)],
+    },
+    Row {
+        kind: WorldKind::Main,
+        text: "console.log(typeof 1, typeof \"\", typeof null, typeof missing, typeof (() => 1), typeof {}, typeof true);",
+        limits: [20, 3, 3, 54],
+        log: "console log \"number string object undefined function object boolean\"\nrest 0",
+        told: [Some(0), Some(0), Some(0), Some(0)],
+    },
+    Row {
+        kind: WorldKind::Main,
+        text: "const o = {a: 1, b: 2}; console.log(delete o.a, delete o[\"c\"], delete 1, o.a, \"b\" in o, \"a\" in o);",
+        limits: [30, 2, 5, 35],
+        log: "console log \"true true true undefined true false\"\nrest 0",
+        told: [Some(0), Some(0), Some(0), Some(0)],
+    },
+    Row {
+        kind: WorldKind::Main,
+        text: "function F() {} const f = new F(); console.log(f instanceof F, {} instanceof F, 1 instanceof F);",
+        limits: [21, 6, 9, 16],
+        log: "console log \"true false false\"\nrest 0",
+        told: [Some(0), Some(0), Some(0), Some(0)],
+    },
+    Row {
+        kind: WorldKind::Main,
+        text: "console.log(\"abc\"[1], \"abc\".length, \"abc\"[9]);",
+        limits: [14, 1, 1, 14],
+        log: "console log \"b 3 undefined\"\nrest 0",
+        told: [Some(0), None, None, Some(0)],
+    },
+];

@@ -1,0 +1,118 @@
+//! Scripts of objects, arrays, functions, calls and patterns.
+use crate::row::Row;
+use world_kind::WorldKind;
+
+pub(crate) const FUNCTIONS: [Row; 16] = [
+    Row {
+        kind: WorldKind::Main,
+        text: "console.log([1, [2, {a: 3}], \"s\"], {k: 1, 2: 3, \"x y\": [], f: () => 1});",
+        limits: [23, 7, 17, 64],
+        log: "console log \"[1, [2, [Object]], \\\"s\\\"] {\\\"2\\\": 3, k: 1, \\\"x y\\\": [], f: [Function]}\"\nrest 0",
+        told: [Some(0), Some(0), Some(0), Some(0)],
+    },
+    Row {
+        kind: WorldKind::Main,
+        text: "const k = \"b\"; const o = {a: 1, [k]: 2, m() { return this.a; }, get g() { return 4; }, set g(v) { this.a = v; }}; o.g = 9; console.log(o.m(), o.b, o.g, o);",
+        limits: [47, 8, 15, 48],
+        log: "console log \"9 2 4 {a: 9, b: 2, m: [Function], g: [Accessor]}\"\nrest 0",
+        told: [Some(0), Some(0), Some(0), Some(0)],
+    },
+    Row {
+        kind: WorldKind::Main,
+        text: "const a = [1, 2]; const f = (...r) => r; console.log([0, ...a, 3], f(...a, 5), [...\"hi\"]);",
+        limits: [29, 8, 24, 35],
+        log: "console log \"[0, 1, 2, 3] [1, 2, 5] [\\\"h\\\", \\\"i\\\"]\"\nrest 0",
+        told: [Some(0), Some(0), Some(0), Some(0)],
+    },
+    Row {
+        kind: WorldKind::Main,
+        text: "const f = (a, b = a + 1, ...c) => [a, b, c.length]; console.log(f(1), f(1, 5, 6, 7), f(undefined, undefined));",
+        limits: [44, 10, 29, 24],
+        log: "uncaught \"TypeError: wrong operand\"\nrest 0",
+        told: [Some(0), Some(0), Some(0), Some(0)],
+    },
+    Row {
+        kind: WorldKind::Main,
+        text: "const {a, b: {c = 4}, d = 5} = {a: 1, b: {}}; const [x, z, y = 3] = [1]; console.log(a, c, d, x, z, y);",
+        limits: [33, 4, 13, 19],
+        log: "console log \"1 4 5 1 undefined 3\"\nrest 0",
+        told: [Some(0), Some(0), Some(0), Some(0)],
+    },
+    Row {
+        kind: WorldKind::Main,
+        text: "const f = ({a, b}, [c]) => a + b + c; console.log(f({a: 1, b: 2}, [3]));",
+        limits: [28, 5, 12, 1],
+        log: "console log \"6\"\nrest 0",
+        told: [Some(0), Some(0), Some(0), None],
+    },
+    Row {
+        kind: WorldKind::Main,
+        text: "const counter = () => { let n = 0; return () => { n += 1; return n; }; }; const c = counter(); const d = counter(); c(); console.log(c(), d());",
+        limits: [57, 11, 16, 3],
+        log: "console log \"2 1\"\nrest 0",
+        told: [Some(0), Some(0), Some(0), Some(0)],
+    },
+    Row {
+        kind: WorldKind::Main,
+        text: "const o = {f() { return () => this === o; }, g: function () { return this; }}; const g = o.g; console.log(o.f()(), o[\"g\"]() === o, g());",
+        limits: [40, 10, 15, 19],
+        log: "console log \"true true undefined\"\nrest 0",
+        told: [Some(0), Some(0), Some(0), Some(0)],
+    },
+    Row {
+        kind: WorldKind::Main,
+        text: "const f = function g(n) { return n < 1 ? 0 : n + g(n - 1); }; console.log(f(3));",
+        limits: [62, 8, 15, 1],
+        log: "console log \"6\"\nrest 0",
+        told: [Some(0), Some(0), Some(0), None],
+    },
+    Row {
+        kind: WorldKind::Main,
+        text: "console.log(f(1)); function f(a) { return a + g(); } function g() { return 10; }",
+        limits: [21, 7, 12, 2],
+        log: "console log \"11\"\nrest 0",
+        told: [Some(1), Some(0), Some(0), Some(0)],
+    },
+    Row {
+        kind: WorldKind::Main,
+        text: "function A() {} A.prototype.x = 1; function B() {} B.prototype = new A(); const b = new B(); b.y = 2; console.log(b.x, b.y, b);",
+        limits: [36, 9, 16, 10],
+        log: "console log \"1 2 {y: 2}\"\nrest 0",
+        told: [Some(0), Some(0), Some(0), Some(0)],
+    },
+    Row {
+        kind: WorldKind::Main,
+        text: "function F() { this.a = 1; return {a: 2}; } function G() { this.a = 3; return 4; } console.log(new F().a, new G().a, new F);",
+        limits: [44, 13, 22, 10],
+        log: "console log \"2 3 {a: 2}\"\nrest 0",
+        told: [Some(0), Some(0), Some(0), Some(0)],
+    },
+    Row {
+        kind: WorldKind::Main,
+        text: "function F() {} const log = []; F.prototype = {set v(x) { this.w = x; }}; const f = new F(); f.v = 7; console.log(f.w, f, F.prototype);",
+        limits: [38, 9, 16, 24],
+        log: "console log \"7 {w: 7} {v: [Accessor]}\"\nrest 0",
+        told: [Some(0), Some(0), Some(0), Some(0)],
+    },
+    Row {
+        kind: WorldKind::Main,
+        text: "const e = new RangeError(\"r\"); e.code = 5; console.log(e, Error(\"m\"), new TypeError(), e.name, e instanceof Error);",
+        limits: [30, 4, 8, 48],
+        log: "console log \"RangeError: r Error: m TypeError RangeError true\"\nrest 0",
+        told: [Some(0), Some(0), Some(0), Some(0)],
+    },
+    Row {
+        kind: WorldKind::Main,
+        text: "const a = [1]; a[1] = a; const o = {p: {}}; o.p.up = o; o.q = [a, [], {}, [{}]]; console.log(a, o);",
+        limits: [39, 9, 21, 68],
+        log: "console log \"[1, [Circular]] {p: {up: [Circular]}, q: [[Array], [], {}, [Array]]}\"\nrest 0",
+        told: [Some(0), Some(0), Some(0), Some(0)],
+    },
+    Row {
+        kind: WorldKind::Main,
+        text: "globalThis.g = 3; g += 1; console.log(g, typeof globalThis.g, delete globalThis.g, typeof g);",
+        limits: [24, 1, 2, 23],
+        log: "console log \"4 number true undefined\"\nrest 0",
+        told: [Some(0), None, Some(0), Some(0)],
+    },
+];
