@@ -8,6 +8,7 @@ ghost use Rattle.world_log.specs.declared.entry.Product as made_by;
 ghost use Rattle.js_names.specs.Patterns.{nodes_of};
 ghost use Rattle.js_semantics.specs.Alone.{alone};
 ghost use Rattle.js_semantics.specs.Run.{Arrival};
+ghost use Rattle.alone_laws.specs.Sizes.{alone_cells};
 ghost use Rattle.world_machine.specs.World.{IsBegun, IsComing, IsEnded, IsIn, IsPut, IsTaken, Resumes, Takes, is_awaited};
 
 use crate::fault::ResumeFault;
@@ -64,7 +65,7 @@ impl World {
     ) -> Result<(World, Pool), AllocError>
         requires given { pool.given < 2 ^ 32 - 1 }
         requires room { length pool.maps ≤ 31 }
-        ensures { IfOk result (λ r. IsBegun (alone (record { kind = kind; limits = bounds_of limits; tree = nodes_of script })) pool r.0 r.1) }
+        ensures { IfOk result (λ r. IsBegun (alone (record { kind = kind; limits = bounds_of limits; tree = nodes_of script })) (alone_cells (record { kind = kind; limits = bounds_of limits; tree = nodes_of script })) pool r.0 r.1) }
     {
         let state = first_state(alloc, limits, kind, pool)?;
         let (machine, pool) = part(state);
