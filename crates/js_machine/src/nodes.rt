@@ -1,14 +1,12 @@
-//! The nodes that rows go through, from a place of a list on.
-ghost use Rattle.std.specs.Prelude.{◌≡◌, ◌+◌, [], ◌∷◌, drop, slice_get, None, Some, IfOk, MatchOption};
+//! Nodes of the tree by their numbers, and lists of nodes from a place on.
+ghost use Rattle.std.specs.Prelude.{◌≡◌, ◌+◌, [], ◌∷◌, drop, slice_get, None, Some, MatchOption};
 ghost use Rattle.js_names.specs.Patterns.{nodes_of};
 ghost use Rattle.js_machine.specs.Parts.{items_of};
 
-use js_semantics::{Scope, StepFault};
 use js_tree::{Node, NodeId, Tree};
-use std::alloc::Global;
 
-/// The node with a number, where it stands.
-#[tactic(auto, using(crate::proofs::Behind::node_some, crate::proofs::Behind::node_none))]
+/// The node with a number, where it stands. The cost is constant.
+#[tactic(auto, using(crate::proofs::Lists::node_some, crate::proofs::Lists::node_none))]
 pub fn node_at(tree: &Tree, id: NodeId) -> Option<&Node>
     ensures { MatchOption result (slice_get (nodes_of tree.now) id.0 ≡ None) (λ node. slice_get (nodes_of tree.now) id.0 ≡ Some node.now) }
 {
@@ -19,8 +17,8 @@ pub fn node_at(tree: &Tree, id: NodeId) -> Option<&Node>
     }
 }
 
-// The elements or members in a node.
-#[tactic(auto, unfolding(js_machine::specs::Parts::items_of))]
+// The items, elements, members or arguments in a node.
+#[tactic(auto, unfolding(crate::specs::Parts::items_of))]
 fn items_in(node: &Node) -> &[NodeId]
     ensures { result.now ≡ items_of (Some node.now) }
 {
@@ -35,8 +33,9 @@ fn items_in(node: &Node) -> &[NodeId]
     }
 }
 
-/// The elements or members of a node.
-#[tactic(auto, unfolding(js_machine::specs::Parts::items_of))]
+/// The items of a script or block, the elements or members of a literal, or the arguments of a call or `new`; any other
+/// node has none. The cost is constant.
+#[tactic(auto, unfolding(crate::specs::Parts::items_of))]
 pub fn items_of(tree: &Tree, node: NodeId) -> &[NodeId]
     ensures { result.now ≡ items_of (slice_get (nodes_of tree.now) node.0) }
 {
@@ -46,9 +45,9 @@ pub fn items_of(tree: &Tree, node: NodeId) -> &[NodeId]
     }
 }
 
-/// What stands at a place of a list, and the place behind it.
-#[tactic(auto, using(crate::proofs::Behind::drop_some, crate::proofs::Behind::drop_none))]
-pub fn next_of(list: &[NodeId], at: usize) -> Option<(NodeId, usize)>
+/// What stands at a place of a list, and the place behind it; `None` where the list ends before. The cost is constant.
+#[tactic(auto, using(crate::proofs::Lists::drop_some, crate::proofs::Lists::drop_none))]
+pub fn next_of<T: Copy>(list: &[T], at: usize) -> Option<(T, usize)>
     ensures { MatchOption result (drop at list.now ≡ []) (λ found. (drop at list.now ≡ found.0 ∷ drop found.1 list.now) × (found.1 ≡ at + 1)) }
 {
     if at < list.len() {
@@ -56,14 +55,4 @@ pub fn next_of(list: &[NodeId], at: usize) -> Option<(NodeId, usize)>
     } else {
         None
     }
-}
-
-/// The same scope again. A receiver that is a string is copied, in time linear in its units.
-pub fn copy_scope(alloc: Global, scope: &Scope) -> Result<Scope, StepFault>
-    ensures { IfOk result (λ copy. copy ≡ scope.now) }
-{
-    Ok(Scope {
-        env: scope.env,
-        receiver: scope.receiver.copy(alloc)?,
-    })
 }

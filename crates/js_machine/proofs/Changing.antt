@@ -1,12 +1,16 @@
 -- What a change of the heap's cells is to a row.
-use Rattle.std.proofs.Common.{◌≡◌, ℕ, suc, List, [], ◌∷◌, Result, IfOk, Option, Some, None, Bool, true, false, if◌then◌else◌, refl, sym, ap, ◌∙◌, arith}
+use Rattle.std.proofs.Common.{◌≡◌, ℕ, suc, ◌≤◌, ◌<◌, List, [], ◌∷◌, Result, IfOk, Option, Some, None, Bool, true, false, if◌then◌else◌, nat_lt, refl, sym, ap, ◌∙◌, arith}
+use Rattle.std.proofs.lemmas.Bool.Decides.{nat_tests}
 use Rattle.js_tree.specs.declared.node.Node.{Node}
 use Rattle.world_heap.specs.declared.value.Value.{Value}
 use Rattle.world_heap.specs.declared.cell.Binding.{Binding}
 use Rattle.world_heap.specs.declared.cell.Cell.{Cell}
 use Rattle.world_heap.specs.declared.cell.Cell.TheVariants as cells
+use Rattle.world_heap.specs.declared.limits.Counts.{Counts}
+use Rattle.world_heap.specs.declared.limits.Full.TheVariants.{Places as FullPlaces, Units as FullUnits}
+use Rattle.world_heap.specs.Growth.{first_passed}
 use Rattle.world_heap.specs.Maps.{keys, put}
-use Rattle.world_heap.specs.Views.{HeapView}
+use Rattle.world_heap.specs.Views.{Bounds, HeapView}
 use Rattle.js_semantics.specs.declared.fault.StepFault.{StepFault}
 use Rattle.js_semantics.specs.World.{World, over, cell_at}
 use Rattle.js_semantics.specs.Prog.{Prog, change, bind}
@@ -26,6 +30,22 @@ follows_keys supply n (x ∷ xs) (y ∷ ys) is f =
     let first : x.0 ≡ y.0 = cc in
     let others : keys xs ≡ keys ys = cc in
     (sym first ∙ f.0, follows_keys supply (suc n) xs ys others f.1)
+
+-- which counts pass no limit, and which pass that of places
+pub passed_none : (b : Bounds) (c : Counts) → first_passed b c ≡ None → c.places ≤ b.places
+passed_none b c h = go (nat_lt b.places c.places) refl (nat_lt b.units c.units) h
+  where
+    go : (x : Bool) → nat_lt b.places c.places ≡ x → (y : Bool) → (if x then Some FullPlaces else if y then Some FullUnits else None) ≡ None → c.places ≤ b.places
+    go true e y k = absurd (cc)
+    go false e y k = grind (arith, nat_tests)
+
+pub passed_places : (b : Bounds) (c : Counts) → first_passed b c ≡ Some FullPlaces → b.places < c.places
+passed_places b c h = go (nat_lt b.places c.places) refl (nat_lt b.units c.units) h
+  where
+    go : (x : Bool) → nat_lt b.places c.places ≡ x → (y : Bool) → (if x then Some FullPlaces else if y then Some FullUnits else None) ≡ Some FullPlaces → b.places < c.places
+    go true e y k = grind (arith, nat_tests)
+    go false e true k = absurd (cc)
+    go false e false k = absurd (cc)
 
 -- the world of a state, once its cells were changed
 pub moves_change : (nodes : List Node) (f : World ℕ → World ℕ) (p : Prog ℕ) (old mid : State) (heap : HeapView) → mid ≡ record old { heap = heap } → heap ≡ record old.heap { cells = heap.cells } → ((w : World ℕ) → over heap w ≡ f (over old.heap w)) → ((w : World ℕ) → keys (f w).heap ≡ keys w.heap) → Moves nodes (change f p) old p mid
