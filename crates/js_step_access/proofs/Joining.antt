@@ -3,9 +3,6 @@ use Rattle.std.proofs.Common.{◌≡◌, ℕ, List, Option, Some, None, Bool, tr
 use Rattle.std.specs.Prelude.{codes}
 use Rattle.world_heap.specs.declared.value.Value.{Value}
 use Rattle.js_tree.specs.declared.node.Node.{Node}
-use Rattle.js_tree.specs.declared.node.NodeId.{NodeId}
-use Rattle.js_tree.specs.declared.node.BinaryOperator.{BinaryOperator}
-use Rattle.js_semantics.specs.declared.scope.Scope.{Scope}
 use Rattle.js_semantics.specs.declared.fault.Fault.TheVariants.{WrongOperand}
 use Rattle.js_semantics.specs.declared.fault.StepFault.{StepFault}
 use Rattle.js_semantics.specs.World.{cell_of}
@@ -15,15 +12,10 @@ use Rattle.js_semantics.specs.Operators.{Computed}
 use Rattle.js_semantics.specs.Expressions.{compute, is_callable}
 use Rattle.js_machine.specs.declared.state.State.{State}
 use Rattle.js_machine.specs.declared.state.Next.{Next}
-use Rattle.js_machine.specs.declared.frame.Key.{Key}
-use Rattle.js_machine.specs.declared.frame.Use.{Use}
-use Rattle.js_machine.specs.declared.frame.Use.TheVariants as uses
 use Rattle.js_machine.specs.declared.frame.Place.{Place}
-use Rattle.js_machine.specs.declared.frame.Place.TheVariants as places
 use Rattle.js_machine.specs.declared.frame.AfterFrame.{AfterFrame}
-use Rattle.js_machine.specs.declared.frame.AfterFrame.TheVariants as afters
 use Rattle.js_machine.specs.Does.{Does, world_of}
-use Rattle.js_machine.specs.Frames.{after_rest, key_text, use_rest}
+use Rattle.js_machine.specs.Frames.{after_rest}
 use Rattle.js_machine.proofs.Doing.{allowing, does_move_ok, does_read_ok}
 use Rattle.js_step_expr.specs.declared.frames.Remaining.{Remaining}
 use Rattle.js_step_expr.specs.declared.frames.Remaining.TheVariants.{Instance}
@@ -70,15 +62,3 @@ pub computed_ended : (nodes : List Node) (c d : Computed ℕ) (k : Value ℕ →
     → c ≡ d → settled ≡ Err next → Settles nodes (compute c k) k old mid settled → Does nodes 4 (compute d k) old mid next
 computed_ended nodes c d k old mid settled next e is h =
     allowing nodes 2 4 (compute d k) old mid next (omega arith) (subst (λ s. Settles nodes (compute d k) k old mid s) is (subst (λ x. Settles nodes (compute x k) k old mid settled) e h))
-
--- a property is read that is assigned by an operator
-pub assigned_by_ok : (nodes : List Node) (usage : Use) (operator : BinaryOperator) (value : NodeId) (base : Value ℕ) (key : Key) (place : Place ℕ) (scope : Scope ℕ) (old new : State) (r : Result Next StepFault)
-    → usage ≡ uses.AssignBy operator value → place ≡ places.Property base key
-    → IfOk r (λ next. Does nodes 6 (get base (key_text nodes key) (λ v. after_rest nodes (afters.AssignBy operator value place scope) v)) old new next) → IfOk r (λ next. Does nodes 6 (use_rest nodes usage base key scope) old new next)
-assigned_by_ok nodes usage operator value base key place scope old new r u p h = rw u (rw p at h)
-
--- or that is called
-pub called_with_ok : (nodes : List Node) (usage : Use) (node : NodeId) (base receiver : Value ℕ) (key : Key) (scope : Scope ℕ) (old new : State) (r : Result Next StepFault)
-    → usage ≡ uses.Call node → receiver ≡ base
-    → IfOk r (λ next. Does nodes 6 (get base (key_text nodes key) (λ v. after_rest nodes (afters.Callee node receiver scope) v)) old new next) → IfOk r (λ next. Does nodes 6 (use_rest nodes usage base key scope) old new next)
-called_with_ok nodes usage node base receiver key scope old new r u same h = rw u (rw same at h)

@@ -5,13 +5,13 @@ ghost use Rattle.js_machine.specs.Does.{Does};
 ghost use Rattle.js_machine.specs.Frames.{after_rest, key_text, use_rest};
 ghost use Rattle.js_names.specs.Patterns.{nodes_of};
 
-use crate::keys::{copy_key, discard, key_units};
+use crate::keys::{copy_key, key_units};
 use crate::removal::delete;
 use js_calls::get;
-use js_machine::{AfterFrame, Key, Next, OperandFrame, Place, State, Use};
+use js_machine::{AfterFrame, Key, Next, OperandFrame, Place, State, Use, discard};
 use js_semantics::{Scope, StepFault};
 use js_step_expr::enter_operand;
-use js_tree::Tree;
+use js_tree::{BinaryOperator, NodeId, Tree, UpdateOperator};
 use std::alloc::Global;
 use world_heap::Value;
 
@@ -54,6 +54,70 @@ fn remove(state: &mut State, tree: &Tree, base: &Value, key: &Key) -> Result<Nex
     }
 }
 
+// Reads a property that is updated.
+fn read_for_update(
+    state: &mut State,
+    tree: &Tree,
+    operator: UpdateOperator,
+    before: bool,
+    base: Value,
+    key: Key,
+    scope: Scope,
+) -> Result<Next, StepFault>
+    ensures { IfOk result (λ next. Does (nodes_of tree.now) 6 (use_rest (nodes_of tree.now) (Use.Update operator before) base key scope) state.old state.new next) }
+{
+    discard(scope);
+    let place = place_of(state.alloc, &base, &key)?;
+    let frame = AfterFrame::Update {
+        operator,
+        before,
+        place,
+    };
+    read(state, tree, base, &key, frame)
+}
+
+// Reads a property that is assigned by an operator.
+fn read_for_assignment(
+    state: &mut State,
+    tree: &Tree,
+    operator: BinaryOperator,
+    value: NodeId,
+    base: Value,
+    key: Key,
+    scope: Scope,
+) -> Result<Next, StepFault>
+    ensures { IfOk result (λ next. Does (nodes_of tree.now) 6 (use_rest (nodes_of tree.now) (Use.AssignBy operator value) base key scope) state.old state.new next) }
+{
+    let place = place_of(state.alloc, &base, &key)?;
+    let frame = AfterFrame::AssignBy {
+        operator,
+        value,
+        place,
+        scope,
+    };
+    read(state, tree, base, &key, frame)
+}
+
+// Reads a property that is called, with its object as the receiver.
+fn read_for_call(
+    state: &mut State,
+    tree: &Tree,
+    node: NodeId,
+    base: Value,
+    key: Key,
+    scope: Scope,
+) -> Result<Next, StepFault>
+    ensures { IfOk result (λ next. Does (nodes_of tree.now) 6 (use_rest (nodes_of tree.now) (Use.Call node) base key scope) state.old state.new next) }
+{
+    let receiver = base.copy(state.alloc)?;
+    let frame = AfterFrame::Callee {
+        node,
+        base: receiver,
+        scope,
+    };
+    read(state, tree, base, &key, frame)
+}
+
 /// What is done with a property: it is read or removed, or first the value that is assigned is entered.
 pub fn use_property(
     state: &mut State,
@@ -71,14 +135,7 @@ pub fn use_property(
             read(state, tree, base, &key, AfterFrame::Give)
         }
         Use::Update { operator, before } => {
-            discard(scope);
-            let place = place_of(state.alloc, &base, &key)?;
-            let frame = AfterFrame::Update {
-                operator,
-                before,
-                place,
-            };
-            read(state, tree, base, &key, frame)
+            read_for_update(state, tree, operator, before, base, key, scope)
         }
         Use::Delete => {
             discard(scope);
@@ -89,23 +146,8 @@ pub fn use_property(
             enter_operand(state, OperandFrame::AssignValue { place }, value, scope)
         }
         Use::AssignBy { operator, value } => {
-            let place = place_of(state.alloc, &base, &key)?;
-            let frame = AfterFrame::AssignBy {
-                operator,
-                value,
-                place,
-                scope,
-            };
-            read(state, tree, base, &key, frame)
+            read_for_assignment(state, tree, operator, value, base, key, scope)
         }
-        Use::Call { node } => {
-            let receiver = base.copy(state.alloc)?;
-            let frame = AfterFrame::Callee {
-                node,
-                base: receiver,
-                scope,
-            };
-            read(state, tree, base, &key, frame)
-        }
+        Use::Call { node } => read_for_call(state, tree, node, base, key, scope),
     }
 }

@@ -15,27 +15,30 @@ use Rattle.js_parse.specs.declared.symbol.Symbol.TheVariants as s
 use Rattle.js_parse.specs.declared.part.Part.TheVariants as parts
 use Rattle.js_parse.specs.declared.fault.Fault.TheVariants as fault
 use Rattle.js_parse.specs.Symbols.{of_kind, is_name, same}
-use Rattle.js_parse.specs.Input.{Parser, Outcome, Input, and_then, symbol, place, place_at, add, pure, sees, or_later, is_arrow_ahead, is_arrow_next, ◌>>=◌, fork as fork_of}
+use Rattle.js_parse.specs.Input.{Parser, Outcome, Input, and_then, symbol, place, place_at, add, pure, sees, refusal, or_later, is_arrow_ahead, is_arrow_next, ◌>>=◌, fork as fork_of}
 use Rattle.js_parse.specs.Grammar as g
 use Rattle.js_parse.specs.Grammar.{function_of, one_parameter}
 use Rattle.js_parse.specs.Nesting.{part_at}
 use Rattle.parse_laws.specs.Trees as mk
 use Rattle.parse_laws.specs.Trees.{Parts, parts_at, place_in, place_of_first, symbol_in, symbol_of_first, first_token, first, second, under, Build}
-use Rattle.parse_laws.proofs.Guided.{guided, many_of, Goes, done}
+use Rattle.parse_laws.specs.Kinds.{token_kind, numbered}
+use Rattle.parse_laws.proofs.Guided.{guided, many_of, guided-continues, called, Was, Goes, done, Told, forked, first_of}
 use Rattle.parse_laws.proofs.Sound.{vacant}
-use Rattle.parse_laws.proofs.Walk.{language, ahead, rule, told, built, Sim, step, step+, step-same, step-same+, eat-or, on-true, on-false, at-first, sees-starts, pair-front}
+use Rattle.parse_laws.proofs.Walk.{language, ahead, rule, told, built, Sim, step, step+, step-same, step-same+, eat-or, on-true, on-false, at-first, sees-starts, pair-front, tables}
 use Rattle.parse_laws.proofs.Symbols.{only-comma, only-open_paren, is-open_paren}
 use Rattle.parse_laws.proofs.Parted.{Parted}
 use Rattle.parse_laws.proofs.Bindings.{bind_name-sim}
 use Rattle.parse_laws.proofs.Assigning
 
--- The other reading makes no difference to what is read.
-pub fork-first : {A : Type 0} (o other : Outcome A) → told (or_later o other) ≡ told o
-fork-first (Ok p) other = refl
-fork-first (Err (fault.Token a false)) other = refl
-fork-first (Err (fault.Token a true)) other = refl
-fork-first (Err (fault.Deep a)) other = refl
-fork-first (Err fault.Memory) other = refl
+-- The parser tells what is told of the two readings.
+pub later-same : (x y : Was Token) (b c : Tree Token → Build NodeId) (ns ms : Nodes) → or_later (called x (built b ns)) (called y (built c ms)) ≡ called (first_of x y) (built b ns)
+unfolding refusal place
+later-same (Ok p) y b c ns ms = refl
+later-same (Err (fault.Token a false)) (Ok q) b c ns ms = refl
+later-same (Err (fault.Token a false)) (Err e) b c ns ms = refl
+later-same (Err (fault.Token a true)) y b c ns ms = refl
+later-same (Err (fault.Deep a)) y b c ns ms = refl
+later-same (Err fault.Memory) y b c ns ms = refl
 
 module _ (depth : ℕ) (h : Parted depth) (allow_in : Bool) where
   pub cond-takes : vacant (cond_rule allow_in) ≡ false
@@ -46,7 +49,7 @@ module _ (depth : ℕ) (h : Parted depth) (allow_in : Bool) where
   unfolding g.unparenthesized place
   cond-sim = record { holds = λ ts ns. (Assigning.operand_first-sim depth h allow_in (place_at ts)).holds ts ns ∙ at-first depth (mk.conditional_at (parts_at depth)) (cond_rule allow_in) cond-takes ts ns }
 
-  pub cond-node : (ts rest : List Token) (a : Tree Token) → guided language ahead (rule depth) (cond_rule allow_in) ts done ≡ Some (a, rest) → (c : Tree Token) × (a ≡ node (form allow_in 42) c)
+  pub cond-node : (ts rest : List Token) (a : Tree Token) → guided language ahead (rule depth) (cond_rule allow_in) ts done ≡ Ok (a, rest) → (c : Tree Token) × (a ≡ node (form allow_in 42) c)
   unfolding cond_rule
   cond-node ts rest a e = let k = Assigning.named-is depth (form allow_in 42) _ ts rest a e in (k.0, k.2)
 
@@ -79,8 +82,8 @@ module _ (depth : ℕ) (h : Parted depth) (allow_in : Bool) where
   listed_arrow at tree ns = mk.after ((parts_at depth).parameters_of parts.Parameters (first tree) ns) (λ list ns. mk.after ((parts_at depth).node_of (parts.ArrowBody true) (second tree) ns) (λ body.
       mk.added (made.Arrow (function_of list body)) at))
 
-  abbrev pub ended : NodeId × Nodes → List Token → Option (NodeId × Input)
-  ended w rest = Some (w.0, (rest, w.1))
+  abbrev pub ended : NodeId × Nodes → List Token → Told (NodeId × Input)
+  ended w rest = Ok (w.0, (rest, w.1))
 
   pub name-arrow : (symbol : Symbol) (tree : Tree Token) → is_name symbol ≡ true → named_arrow (place_in tree) tree ≡ mk.arrow_by (parts_at depth) symbol tree
   name-arrow s.OpenParen tree e = absurd (cc (e))
@@ -118,24 +121,86 @@ module _ (depth : ℕ) (h : Parted depth) (allow_in : Bool) where
   chosen paren far name near i = if paren then (if far then g.arrow_first (part_at depth) allow_in i else g.group_first (part_at depth) allow_in i)
       else (if name then (if near then g.arrow_of_name (part_at depth) allow_in i else g.unparenthesized (part_at depth) allow_in i) else g.unparenthesized (part_at depth) allow_in i)
 
-  pub assign-by : (ts : List Token) (ns : Nodes) (paren far name near : Bool) → sees s.OpenParen (ts, []) ≡ paren → is_name (symbol (ts, [])) ≡ name
-      → told (chosen paren far name near (ts, ns))
-      ≡ (if (if paren then far else (if name then near else false)) then guided language ahead (rule depth) arrow_x ts (assigned ns) else guided language ahead (rule depth) (cond_rule allow_in) ts (assigned ns))
-  unfolding g.arrow_first g.group_first fork_of sees symbol same
-  assign-by [] ns true far name near e f = absurd (cc (e))
-  assign-by (t ∷ ts) ns true true name near e f = fork-first (g.arrow_of_list (part_at depth) allow_in (t ∷ ts, ns)) _
-      ∙ assign-list t ts ns (is-open_paren (of_kind t.kind) e) (arrow-tells (t ∷ ts) ∙ e)
-  assign-by (t ∷ ts) ns true false name near e f = fork-first (g.unparenthesized (part_at depth) allow_in (t ∷ ts, ns)) _ ∙ assign-cond (t ∷ ts) ns
-  assign-by ts ns false far false near e f = assign-cond ts ns
-  assign-by ts ns false far true false e f = assign-cond ts ns
-  assign-by [] ns false far true true e f = absurd (cc (f))
-  assign-by (t ∷ ts) ns false far true true e f = assign-name t ts ns f (arrow-tells (t ∷ ts) ∙ e)
+  abbrev pub begins : List Token → Bool
+  begins ts = starts language (among (language.heads (form allow_in 42))) ts
+
+  pub paren-begins : (symbol : Symbol) (broken : Bool) → same symbol s.OpenParen ≡ true → among (language.heads (form allow_in 42)) (numbered symbol broken) ≡ true
+  unfolding same tables cond_rule
+  paren-begins symbol broken e = by allow_in symbol broken e
+    where
+      by : (b : Bool) (symbol : Symbol) (broken : Bool) → same symbol s.OpenParen ≡ true → among (language.heads (form b 42)) (numbered symbol broken) ≡ true
+      by true s.OpenParen true e = refl
+      by true s.OpenParen false e = refl
+      by false s.OpenParen true e = refl
+      by false s.OpenParen false e = refl
+      by _ _ _ e = absurd (cc (e))
+
+  pub name-begins : (symbol : Symbol) (broken : Bool) → is_name symbol ≡ true → among (language.heads (form allow_in 42)) (numbered symbol broken) ≡ true
+  unfolding tables cond_rule
+  name-begins symbol broken e = by allow_in symbol broken e
+    where
+      by : (b : Bool) (symbol : Symbol) (broken : Bool) → is_name symbol ≡ true → among (language.heads (form b 42)) (numbered symbol broken) ≡ true
+      by true s.Name true e = refl
+      by true s.Name false e = refl
+      by true s.Of true e = refl
+      by true s.Of false e = refl
+      by true s.Get true e = refl
+      by true s.Get false e = refl
+      by true s.Set true e = refl
+      by true s.Set false e = refl
+      by false s.Name true e = refl
+      by false s.Name false e = refl
+      by false s.Of true e = refl
+      by false s.Of false e = refl
+      by false s.Get true e = refl
+      by false s.Get false e = refl
+      by false s.Set true e = refl
+      by false s.Set false e = refl
+      by _ _ _ e = absurd (cc (e))
+
+  abbrev pub cond_of : List Token → Was Token
+  cond_of ts = guided language ahead (rule depth) (cond_rule allow_in) ts done
+
+  abbrev pub arrow_of : List Token → Was Token
+  arrow_of ts = guided language ahead (rule depth) arrow_x ts done
+
+  pub cond-then : (ts : List Token) (ns : Nodes) → told (g.unparenthesized (part_at depth) allow_in (ts, ns)) ≡ called (cond_of ts) (assigned ns)
+  cond-then ts ns = assign-cond ts ns ∙ guided-continues language ahead (rule depth) (NodeId × Input) (cond_rule allow_in) ts (assigned ns)
+
+  pub list-then : (t : Token) (ts : List Token) (ns : Nodes) → same (of_kind t.kind) s.OpenParen ≡ true → told (g.arrow_of_list (part_at depth) allow_in (t ∷ ts, ns)) ≡ called (arrow_of (t ∷ ts)) (assigned ns)
+  unfolding sees symbol
+  list-then t ts ns e = assign-list t ts ns (is-open_paren (of_kind t.kind) e) (arrow-tells (t ∷ ts) ∙ e)
+      ∙ guided-continues language ahead (rule depth) (NodeId × Input) arrow_x (t ∷ ts) (assigned ns)
+
+  abbrev pub both_so : Bool → Bool → Bool → List Token → Nodes → Told (NodeId × Input)
+  both_so b paren comes ts ns = if b then called (forked paren comes (cond_of ts) (arrow_of ts)) (assigned ns) else guided language ahead (rule depth) (cond_rule allow_in) ts (assigned ns)
+
+  pub assign-by : (ts : List Token) (ns : Nodes) (b paren far name near : Bool) → begins ts ≡ b → sees s.OpenParen (ts, []) ≡ paren → is_name (symbol (ts, [])) ≡ name
+      → told (chosen paren far name near (ts, ns)) ≡ both_so b paren (if paren then far else (if name then near else false)) ts ns
+  unfolding g.arrow_first g.group_first fork_of sees symbol same token_kind mk.assign
+  assign-by [] ns true paren far name near d e f = absurd (cc (d))
+  assign-by [] ns false true far name near d e f = absurd (cc (e))
+  assign-by [] ns false false far true near d e f = absurd (cc (f))
+  assign-by [] ns false false far false near d e f = assign-cond [] ns
+  assign-by (t ∷ ts) ns false true far name near d e f = absurd (let on = paren-begins (of_kind t.kind) t.broken e in cc (on, d))
+  assign-by (t ∷ ts) ns false false far true near d e f = absurd (let on = name-begins (of_kind t.kind) t.broken f in cc (on, d))
+  assign-by (t ∷ ts) ns false false far false near d e f = assign-cond (t ∷ ts) ns
+  assign-by (t ∷ ts) ns true true true name near d e f =
+      ap (λ o. or_later o (g.unparenthesized (part_at depth) allow_in (t ∷ ts, []))) (list-then t ts ns e) ∙ ap (λ o. or_later (called (arrow_of (t ∷ ts)) (assigned ns)) o) (cond-then (t ∷ ts) [])
+      ∙ later-same (arrow_of (t ∷ ts)) (cond_of (t ∷ ts)) (λ a. mk.assign (parts_at depth) (node (form allow_in 43) a)) (λ a. mk.assign (parts_at depth) (node (form allow_in 43) a)) ns []
+  assign-by (t ∷ ts) ns true true false name near d e f =
+      ap (λ o. or_later o (g.arrow_of_list (part_at depth) allow_in (t ∷ ts, []))) (cond-then (t ∷ ts) ns) ∙ ap (λ o. or_later (called (cond_of (t ∷ ts)) (assigned ns)) o) (list-then t ts [] e)
+      ∙ later-same (cond_of (t ∷ ts)) (arrow_of (t ∷ ts)) (λ a. mk.assign (parts_at depth) (node (form allow_in 43) a)) (λ a. mk.assign (parts_at depth) (node (form allow_in 43) a)) ns []
+  assign-by (t ∷ ts) ns true false far false near d e f = cond-then (t ∷ ts) ns
+  assign-by (t ∷ ts) ns true false far true false d e f = cond-then (t ∷ ts) ns
+  assign-by (t ∷ ts) ns true false far true true d e f =
+      assign-name t ts ns f (arrow-tells (t ∷ ts) ∙ e) ∙ guided-continues language ahead (rule depth) (NodeId × Input) arrow_x (t ∷ ts) (assigned ns)
 
   pub assign-sim : Sim depth (g.assign (part_at depth) allow_in) (assign_rule allow_in) (mk.assign (parts_at depth))
-  unfolding g.assign g.parenthesized g.named assign_rule guided ahead sees symbol is_arrow_ahead is_arrow_next
+  unfolding g.assign g.parenthesized g.named assign_rule guided firsts ahead sees symbol is_arrow_ahead is_arrow_next
   assign-sim = record {
     holds = λ ts ns.
-        assign-by ts ns (sees s.OpenParen (ts, [])) (is_arrow_ahead (ts, [])) (is_name (symbol (ts, []))) (is_arrow_next (ts, [])) refl refl;
+        assign-by ts ns (begins ts) (sees s.OpenParen (ts, [])) (is_arrow_ahead (ts, [])) (is_name (symbol (ts, []))) (is_arrow_next (ts, [])) refl refl refl;
   }
 
   -- ---- commas

@@ -1,6 +1,6 @@
 -- Assignments and expressions.
 use Rattle.std.proofs.Common.{inl, inr, true, false, Bool, ◌⊎◌, ◌≡◌, ℕ, zero, suc, List, [], ◌∷◌, ◌++◌, refl, ap, sym, subst, ◌∙◌, codes}
-use Rattle.std.specs.Prelude.{Option, Some, None, if◌then◌else◌, ◌==◌, is_some}
+use Rattle.std.specs.Prelude.{Option, Some, None, if◌then◌else◌, ◌==◌, is_some, Ok, Err}
 use Rattle.grammar.specs.Kinds.{among}
 use Rattle.grammar.specs.Reading.{firsts, nullable}
 use Rattle.grammar.specs.Grammar.{Tree, tip, leaf, pair, node, both, either, call, empty, token, named, line, starts, entry, Derives, Spells}
@@ -24,7 +24,7 @@ use Rattle.js_parse.specs.Nesting.{part_at}
 use Rattle.parse_laws.specs.Kinds.{numbered, token_kind}
 use Rattle.parse_laws.specs.Trees as mk
 use Rattle.parse_laws.specs.Trees.{Parts, parts_at, place_in, symbol_in, symbol_of_first, first_token, first, second, under, Build}
-use Rattle.parse_laws.proofs.Guided.{guided, Goes, done, called, called_some, some_same, guided-continues, was}
+use Rattle.parse_laws.proofs.Guided.{guided, Goes, done, called, called_ok, ok_same, guided-continues, was, wrong}
 use Rattle.parse_laws.proofs.Sound.{vacant, rule-finds, read-front}
 use Rattle.parse_laws.proofs.Walk.{on-true, language, ahead, rule, told, built, Sim, step, step+, step-at, step-expect, eat-step+, each-takes, tables}
 use Rattle.parse_laws.proofs.Symbols.{only-question, only-colon, is-question}
@@ -51,20 +51,20 @@ module _ (depth : ℕ) where
   abbrev pub Trees : Type 0
   Trees = Tree Token × List Token
 
-  pub named-is : (name : ℕ) (x : Rule) (ts rest : List Token) (a : Tree Token) → guided language ahead (rule depth) (named name x) ts done ≡ Some (a, rest)
-      → (c : Tree Token) × (guided language ahead (rule depth) x ts done ≡ Some (c, rest)) × (a ≡ node name c)
+  pub named-is : (name : ℕ) (x : Rule) (ts rest : List Token) (a : Tree Token) → guided language ahead (rule depth) (named name x) ts done ≡ Ok (a, rest)
+      → (c : Tree Token) × (guided language ahead (rule depth) x ts done ≡ Ok (c, rest)) × (a ≡ node name c)
   unfolding guided
   named-is name x ts rest a e =
-      let k = called_some (guided language ahead (rule depth) x ts done) (λ a rest. done (node name a) rest) (a, rest) (sym (guided-continues language ahead (rule depth) Trees x ts (λ a rest. done (node name a) rest)) ∙ e) in
-      let same = some_same _ _ k.2 in
-      ((k.0).0, k.1 ∙ ap (λ (r : List Token). Some ((k.0).0, r)) (ap (λ q. q.1) same), sym (ap (λ q. q.0) same))
+      let k = called_ok (guided language ahead (rule depth) x ts done) (λ a rest. done (node name a) rest) (a, rest) (sym (guided-continues language ahead (rule depth) Trees x ts (λ a rest. done (node name a) rest)) ∙ e) in
+      let same = ok_same _ _ k.2 in
+      ((k.0).0, k.1 ∙ ap (λ (r : List Token). Ok ((k.0).0, r)) (ap (λ q. q.1) same), sym (ap (λ q. q.0) same))
 
-  pub unary-node : (ts rest : List Token) (a : Tree Token) → guided language ahead (rule depth) unary_rule ts done ≡ Some (a, rest) → (c : Tree Token)
-      × (guided language ahead (rule depth) (either (call 12) (both (line 29 left_rule) (optional (token Expressions.postfix_kinds_of)))) ts done ≡ Some (c, rest)) × (a ≡ node 30 c)
+  pub unary-node : (ts rest : List Token) (a : Tree Token) → guided language ahead (rule depth) unary_rule ts done ≡ Ok (a, rest) → (c : Tree Token)
+      × (guided language ahead (rule depth) (either (call 12) (both (line 29 left_rule) (optional (token Expressions.postfix_kinds_of)))) ts done ≡ Ok (c, rest)) × (a ≡ node 30 c)
   unfolding unary_rule
   unary-node ts rest a e = named-is 30 _ ts rest a e
 
-  pub left-node : (ts rest : List Token) (a : Tree Token) → guided language ahead (rule depth) left_rule ts done ≡ Some (a, rest) → (c : Tree Token) × (a ≡ node 29 c)
+  pub left-node : (ts rest : List Token) (a : Tree Token) → guided language ahead (rule depth) left_rule ts done ≡ Ok (a, rest) → (c : Tree Token) × (a ≡ node 29 c)
   unfolding left_rule
   left-node ts rest a e = let k = named-is 29 _ ts rest a e in (k.0, k.2)
 
@@ -80,20 +80,20 @@ module _ (depth : ℕ) where
   left-solid = refl
 
   -- behind a Left: nothing, or an operator
-  pub postfix-shape : (ts : List Token) (f : Tree Token → Tree Token) (q : Trees) → guided language ahead (rule depth) (optional (token Expressions.postfix_kinds_of)) ts (λ p rest. done (f p) rest) ≡ Some q
+  pub postfix-shape : (ts : List Token) (f : Tree Token → Tree Token) (q : Trees) → guided language ahead (rule depth) (optional (token Expressions.postfix_kinds_of)) ts (λ p rest. done (f p) rest) ≡ Ok q
       → (p : Tree Token) × (q.0 ≡ f p) × ((p ≡ tip) ⊎ ((t : Token) × (p ≡ leaf t)))
   unfolding guided
-  postfix-shape [] f q e = (tip, ap (λ q. q.0) (sym (some_same _ _ e)), inl refl)
+  postfix-shape [] f q e = (tip, ap (λ q. q.0) (sym (ok_same _ _ e)), inl refl)
   postfix-shape (t ∷ ts) f q e = elim (was (among (firsts {A = Token} language.heads (token Expressions.postfix_kinds_of)) (token_kind t))
-      (if among Expressions.postfix_kinds_of (token_kind t) then Some (f (leaf t), ts) else None) (Some (f tip, t ∷ ts)) q e) [
-        | inl h ↦ elim (was (among Expressions.postfix_kinds_of (token_kind t)) (Some (f (leaf t), ts)) None q h.1) [
-          | inl k ↦ (leaf t, ap (λ q. q.0) (sym (some_same _ _ k.1)), inr (t, refl))
+      (if among Expressions.postfix_kinds_of (token_kind t) then Ok (f (leaf t), ts) else Err (wrong (t ∷ ts))) (Ok (f tip, t ∷ ts)) q e) [
+        | inl h ↦ elim (was (among Expressions.postfix_kinds_of (token_kind t)) (Ok (f (leaf t), ts)) (Err (wrong (t ∷ ts))) q h.1) [
+          | inl k ↦ (leaf t, ap (λ q. q.0) (sym (ok_same _ _ k.1)), inr (t, refl))
           | inr k ↦ absurd (cc (k.1))
         ]
-        | inr h ↦ (tip, ap (λ q. q.0) (sym (some_same _ _ h.1)), inl refl)
+        | inr h ↦ (tip, ap (λ q. q.0) (sym (ok_same _ _ h.1)), inl refl)
       ]
 
-  pub prefix-reaches : (ts rest : List Token) (c : Tree Token) → rule depth 12 ts ≡ Some (c, rest) → reaches left_node (node 30 c) ≡ false
+  pub prefix-reaches : (ts rest : List Token) (c : Tree Token) → rule depth 12 ts ≡ Ok (c, rest) → reaches left_node (node 30 c) ≡ false
   unfolding Derives Spells rules entry prefixed_rule unary_rule reaches among
   prefix-reaches ts rest c e = by depth (rule-finds language ahead depth 12 ts (c, rest) e)
     where
@@ -107,20 +107,20 @@ module _ (depth : ℕ) where
   unfolding token_kind firsts entry heads
   starts-prefix t ts = sym (prefix-agrees (of_kind t.kind) t.broken)
 
-  pub unary-cases : (ts rest : List Token) (c : Tree Token) → guided language ahead (rule depth) (either (call 12) (both (line 29 left_rule) (optional (token Expressions.postfix_kinds_of)))) ts done ≡ Some (c, rest)
+  pub unary-cases : (ts rest : List Token) (c : Tree Token) → guided language ahead (rule depth) (either (call 12) (both (line 29 left_rule) (optional (token Expressions.postfix_kinds_of)))) ts done ≡ Ok (c, rest)
       → ((is_prefix (symbol_in c) ≡ true) × (reaches left_node (node 30 c) ≡ false)) ⊎ ((is_prefix (symbol_in c) ≡ false) × (reaches left_node (node 30 c) ≡ Expressions.alone_by false c))
   unfolding guided first_token vacant
   unary-cases ts rest c e = elim (was (starts language (among (firsts {A = Token} language.heads (call 12))) ts) (called (rule depth 12 ts) done)
       (guided language ahead (rule depth) left_rule ts (λ l mid. guided language ahead (rule depth) (optional (token Expressions.postfix_kinds_of)) mid (λ p rest. done (pair l p) rest))) (c, rest) e) [
         | inl h ↦
             let f = read-front language ahead depth each-takes (call 12) refl ts rest c h.1 in
-            let k = called_some (rule depth 12 ts) done (c, rest) h.1 in
+            let k = called_ok (rule depth 12 ts) done (c, rest) h.1 in
             inl (
               ap (λ o. is_prefix (symbol_of_first o)) f.3 ∙ sym (starts-prefix f.0 f.1) ∙ ap (λ ts. starts language (among (firsts {A = Token} language.heads (call 12))) ts) (sym f.2) ∙ h.0,
               prefix-reaches ts rest c (k.1 ∙ k.2),
             )
         | inr h ↦
-            let k = called_some (guided language ahead (rule depth) left_rule ts done) (λ l mid. guided language ahead (rule depth) (optional (token Expressions.postfix_kinds_of)) mid (λ p rest. done (pair l p) rest))
+            let k = called_ok (guided language ahead (rule depth) left_rule ts done) (λ l mid. guided language ahead (rule depth) (optional (token Expressions.postfix_kinds_of)) mid (λ p rest. done (pair l p) rest))
             (c, rest) (sym (guided-continues language ahead (rule depth) Trees left_rule ts _) ∙ h.1) in
             let f = read-front language ahead depth each-takes left_rule left-solid ts (k.0).1 (k.0).0 k.1 in
             let p = postfix-shape (k.0).1 (λ p. pair (k.0).0 p) (c, rest) k.2 in
@@ -134,14 +134,14 @@ module _ (depth : ℕ) where
       ]
 
   -- an operand is a Left alone as its tree says
-  pub unary-alone : (ts rest : List Token) (a : Tree Token) → guided language ahead (rule depth) unary_rule ts done ≡ Some (a, rest)
+  pub unary-alone : (ts rest : List Token) (a : Tree Token) → guided language ahead (rule depth) unary_rule ts done ≡ Ok (a, rest)
       → reaches left_node a ≡ Expressions.alone_by (is_prefix (symbol_in a)) (under a)
   unfolding first_token
   unary-alone ts rest a e =
       let k = unary-node ts rest a e in
       subst (λ a. reaches left_node a ≡ Expressions.alone_by (is_prefix (symbol_in a)) (under a)) (sym k.2) (by ts k.0 k.1)
     where
-      by : (ts : List Token) (c : Tree Token) → guided language ahead (rule depth) (either (call 12) (both (line 29 left_rule) (optional (token Expressions.postfix_kinds_of)))) ts done ≡ Some (c, rest)
+      by : (ts : List Token) (c : Tree Token) → guided language ahead (rule depth) (either (call 12) (both (line 29 left_rule) (optional (token Expressions.postfix_kinds_of)))) ts done ≡ Ok (c, rest)
           → reaches left_node (node 30 c) ≡ Expressions.alone_by (is_prefix (symbol_of_first (first_token c))) c
       by ts c e = elim (unary-cases ts rest c e) [
         | inl h ↦ h.1 ∙ sym (ap (λ b. Expressions.alone_by b c) h.0)
@@ -200,7 +200,7 @@ module _ (depth : ℕ) (h : Parted depth) (allow_in : Bool) where
           (λ b e. built (mk.conditional_at (parts_at depth) at) ns (node (form allow_in 42) (pair sh (pair (leaf t) b))) e)
       question t rest e = step (h.right_part allow_in) rest _ _ _ (λ a m. step-expect only-colon m _ _ _ (λ u n. step (h.right_part allow_in) n _ _ _ (λ b o.
           ap (λ q. let w = mk.assigned (parts_at depth) (assign_operator q) at (mk.short_at (parts_at depth) at sh ns).0 (pair (leaf t) (pair a (pair (leaf u) b))) (mk.short_at (parts_at depth) at sh ns).1 in
-          Some (w.0, (o, w.1))) (sym e))))
+          Ok (w.0, (o, w.1))) (sym e))))
 
   -- Where no operator of an assignment comes, the branches alone may.
   pub either-skips : (r : List Token) (k : Goes Token (NodeId × Input)) → starts language (among assign_kinds) r ≡ false
@@ -239,7 +239,7 @@ module _ (depth : ℕ) (h : Parted depth) (allow_in : Bool) where
   begun at ns a t m begins =
       let one : among (assign_kinds ++ []) (token_kind t) ≡ true = ap (λ f. among f (token_kind t)) (append-nil assign_kinds) ∙ begins in
       let two = among-left (assign_kinds ++ []) (firsts language.heads branches_x) (token_kind t) one in
-      thrice _ _ _ _ None (guided language ahead (rule depth) branches_x (t ∷ m) k) (k tip (t ∷ m)) two one begins
+      thrice _ _ _ _ (Err (wrong (t ∷ m))) (guided language ahead (rule depth) branches_x (t ∷ m) k) (k tip (t ∷ m)) two one begins
     where
       k : Goes Token (NodeId × Input)
       k b e = built (mk.conditional_at (parts_at depth) at) ns (node (form allow_in 42) (pair (Behind.short_tower depth h allow_in a) b)) e
@@ -259,8 +259,8 @@ module _ (depth : ℕ) (h : Parted depth) (allow_in : Bool) where
   assigned-step at ns a (t ∷ m) o e q =
       let begins : starts language (among assign_kinds) (t ∷ m) ≡ true = sym (assign-starts (t ∷ m)) ∙ ap (λ o. is_some o) e in
       step (h.right_part allow_in) m _ _ _ (λ v rest.
-      ap (λ w. let u = mk.after w (λ left. mk.assigned (parts_at depth) (Some o) at left (pair (leaf t) v)) in Some (u.0, (rest, u.1))) (sym (Behind.short-built depth h allow_in at a ns))
-      ∙ ap (λ p. let u = mk.after (mk.short_at (parts_at depth) at (Behind.short_tower depth h allow_in a) ns) (λ left. mk.assigned (parts_at depth) p at left (pair (leaf t) v)) in Some (u.0, (rest, u.1))) (sym e))
+      ap (λ w. let u = mk.after w (λ left. mk.assigned (parts_at depth) (Some o) at left (pair (leaf t) v)) in Ok (u.0, (rest, u.1))) (sym (Behind.short-built depth h allow_in at a ns))
+      ∙ ap (λ p. let u = mk.after (mk.short_at (parts_at depth) at (Behind.short_tower depth h allow_in a) ns) (λ left. mk.assigned (parts_at depth) p at left (pair (leaf t) v)) in Ok (u.0, (rest, u.1))) (sym e))
       ∙ begun at ns a t m begins ∙ reached-first at ns a (t ∷ m) q ∙ sym (Behind.short-stops depth h allow_in (NodeId × Input) a (t ∷ m) (cond_end at ns) begins)
 
   pub no-assign : (at : ℕ) (ns : Nodes) (a : Tree Token) (m : List Token) → (reaches left_node a ≡ true → starts language (among assign_kinds) m ≡ false)

@@ -1,6 +1,6 @@
 -- What follows an operand, up to each level of operators.
 use Rattle.std.proofs.Common.{inl, inr, true, false, Bool, ◌≡◌, ℕ, suc, ◌+◌, List, [], ◌∷◌, length, refl, ap, sym, subst, ◌∙◌, codes}
-use Rattle.std.specs.Prelude.{Option, Some, if◌then◌else◌}
+use Rattle.std.specs.Prelude.{Option, Some, if◌then◌else◌, Ok}
 use Rattle.grammar.specs.Kinds.{among, apart}
 use Rattle.grammar.specs.Reading.{firsts}
 use Rattle.grammar.specs.Grammar.{Tree, tip, leaf, pair, node, both, token, line, starts}
@@ -16,7 +16,7 @@ use Rattle.js_parse.specs.Grammar as g
 use Rattle.js_parse.specs.Nesting.{part_at}
 use Rattle.parse_laws.specs.Trees as mk
 use Rattle.parse_laws.specs.Trees.{Parts, parts_at, place_in, symbol_in, first, second, under, Build}
-use Rattle.parse_laws.proofs.Guided.{guided, Goes, done, called, called_some, some_same, then-same, goes-on, guided-continues, was, if-called}
+use Rattle.parse_laws.proofs.Guided.{guided, Goes, done, called, called_ok, ok_same, then-same, goes-on, guided-continues, was, if-called, Told}
 use Rattle.parse_laws.proofs.Sound.{vacant}
 use Rattle.parse_laws.proofs.Walk.{language, ahead, rule, told, built, step-at, step-same, tip-took, tables}
 use Rattle.parse_laws.proofs.Loops.{Level, chain-sim}
@@ -27,7 +27,7 @@ use Rattle.parse_laws.proofs.Operators
 
 -- what is read behind a tree, and goes on
 abbrev pub Rest : Type 1
-Rest = (C : Type 0) → Tree Token → List Token → Goes Token C → Option C
+Rest = (C : Type 0) → Tree Token → List Token → Goes Token C → Told C
 
 abbrev pub left_node : List ℕ
 left_node = 29 ∷ []
@@ -56,7 +56,7 @@ module _ (depth : ℕ) (h : Parted depth) (allow_in : Bool) where
     pub continues : (C : Type 0) (a : Tree Token) (m : List Token) (k : Goes Token C) → R C a m k ≡ called (R (Tree Token × List Token) a m done) k
     pub reads : (at : ℕ) (a : Tree Token) (ns : Nodes) (m : List Token) → told (let w = mk.unary (parts_at depth) a ns in g.operations (part_at depth) allow_in n at w.0 (m, w.1))
         ≡ R (NodeId × Input) a m (built (mk.operand_at (parts_at depth) n at) ns)
-    pub alone : (a tree : Tree Token) (m rest : List Token) → R (Tree Token × List Token) a m done ≡ Some (tree, rest) → reaches left_node tree ≡ true → (rest ≡ m) × (reaches left_node a ≡ true)
+    pub alone : (a tree : Tree Token) (m rest : List Token) → R (Tree Token × List Token) a m done ≡ Ok (tree, rest) → reaches left_node tree ≡ true → (rest ≡ m) × (reaches left_node a ≡ true)
     pub tower : Tree Token → Tree Token
     pub tower-reaches : (a : Tree Token) → reaches left_node (tower a) ≡ reaches left_node a
     pub tower-built : (at : ℕ) (a : Tree Token) (ns : Nodes) → mk.operand_at (parts_at depth) n at (tower a) ns ≡ mk.unary (parts_at depth) a ns
@@ -70,7 +70,7 @@ module _ (depth : ℕ) (h : Parted depth) (allow_in : Bool) where
   behind-0 = record {
     continues = λ C a m k. refl;
     reads = λ at a ns m. refl;
-    alone = λ a tree m rest e q. let same = some_same _ _ e in (ap (λ q. q.1) (sym same), ap (λ q. reaches left_node q.0) same ∙ q);
+    alone = λ a tree m rest e q. let same = ok_same _ _ e in (ap (λ q. q.1) (sym same), ap (λ q. reaches left_node q.0) same ∙ q);
     tower = λ a. a;
     tower-reaches = λ a. refl;
     tower-built = λ at a ns. refl;
@@ -97,11 +97,11 @@ module _ (depth : ℕ) (h : Parted depth) (allow_in : Bool) where
         (λ t mid e. step-same (chain-sim depth (Operators.operand-sim depth h allow_in n below v sub) at known _) mid _ _ (λ c rest. refl))
         ∙ sym (prev.continues (NodeId × Input) a m _);
     alone = λ a tree m rest e q.
-        let k = called_some (R (Tree Token × List Token) a m done) _ (tree, rest) (sym (prev.continues (Tree Token × List Token) a m _) ∙ e) in
-        let f = called_some (guided language ahead (rule depth) y (k.0).1 done) _ (tree, rest) (sym (guided-continues language ahead (rule depth) (Tree Token × List Token) y (k.0).1 _) ∙ k.2) in
-        let same = some_same _ _ f.2 in
+        let k = called_ok (R (Tree Token × List Token) a m done) _ (tree, rest) (sym (prev.continues (Tree Token × List Token) a m _) ∙ e) in
+        let f = called_ok (guided language ahead (rule depth) y (k.0).1 done) _ (tree, rest) (sym (guided-continues language ahead (rule depth) (Tree Token × List Token) y (k.0).1 _) ∙ k.2) in
+        let same = ok_same _ _ f.2 in
         let up = reached-tip name (k.0).0 (f.0).0 other (ap (λ q. reaches left_node q.0) same ∙ q) in
-        let none : guided language ahead (rule depth) y (k.0).1 done ≡ Some (tip, (f.0).1) = f.1 ∙ ap (λ (c : Tree Token). Some (c, (f.0).1)) up.0 in
+        let none : guided language ahead (rule depth) y (k.0).1 done ≡ Ok (tip, (f.0).1) = f.1 ∙ ap (λ (c : Tree Token). Ok (c, (f.0).1)) up.0 in
         let took = tip-took depth always (both (token kinds) (line below x)) (k.0).1 (f.0).1 none in
         let ih = prev.alone a (k.0).0 m (k.0).1 k.1 up.1 in
         (ap (λ q. q.1) (sym same) ∙ sym took ∙ ih.0, ih.1);
@@ -292,12 +292,12 @@ module _ (depth : ℕ) (h : Parted depth) (allow_in : Bool) where
       (λ d e. k (node (form allow_in 41) (pair o d)) e) (λ d e. done (node (form allow_in 41) (pair o d)) e) k (λ d e. refl)) refl)
       ∙ sym (ap (λ w. called w k) (behind-10.continues Trees a m (short_with Trees done)))
 
-  pub up-node : {n : ℕ} {R : Rest} (name : ℕ) (x : Rule) → Behind n R → (a tree : Tree Token) (m rest : List Token) → rest-up name x R (Tree Token × List Token) a m done ≡ Some (tree, rest)
+  pub up-node : {n : ℕ} {R : Rest} (name : ℕ) (x : Rule) → Behind n R → (a tree : Tree Token) (m rest : List Token) → rest-up name x R (Tree Token × List Token) a m done ≡ Ok (tree, rest)
       → (c : Tree Token) × (tree ≡ node name c)
   up-node {n} {R} name x prev a tree m rest e =
-      let k = called_some (R (Tree Token × List Token) a m done) _ (tree, rest) (sym (prev.continues (Tree Token × List Token) a m _) ∙ e) in
-      let f = called_some (guided language ahead (rule depth) (any x) (k.0).1 done) _ (tree, rest) (sym (guided-continues language ahead (rule depth) (Tree Token × List Token) (any x) (k.0).1 _) ∙ k.2) in
-      (pair (k.0).0 (f.0).0, sym (ap (λ q. q.0) (some_same _ _ f.2)))
+      let k = called_ok (R (Tree Token × List Token) a m done) _ (tree, rest) (sym (prev.continues (Tree Token × List Token) a m _) ∙ e) in
+      let f = called_ok (guided language ahead (rule depth) (any x) (k.0).1 done) _ (tree, rest) (sym (guided-continues language ahead (rule depth) (Tree Token × List Token) (any x) (k.0).1 _) ∙ k.2) in
+      (pair (k.0).0 (f.0).0, sym (ap (λ q. q.0) (ok_same _ _ f.2)))
 
   pub short-reads : (at : ℕ) (a : Tree Token) (ns : Nodes) (m : List Token) → told (let w = mk.unary (parts_at depth) a ns in g.short (part_at depth) allow_in at w.0 (m, w.1))
       ≡ rest-short (NodeId × Input) a m (built (mk.short_at (parts_at depth) at) ns)
@@ -311,24 +311,24 @@ module _ (depth : ℕ) (h : Parted depth) (allow_in : Bool) where
       (sym k.1) (Operators.short-chosen depth h allow_in at ns k.0 mid))
       ∙ sym (behind-8.continues (NodeId × Input) a m _)
 
-  pub short-alone : (a tree : Tree Token) (m rest : List Token) → rest-short (Tree Token × List Token) a m done ≡ Some (tree, rest) → reaches left_node tree ≡ true
+  pub short-alone : (a tree : Tree Token) (m rest : List Token) → rest-short (Tree Token × List Token) a m done ≡ Ok (tree, rest) → reaches left_node tree ≡ true
       → (rest ≡ m) × (reaches left_node a ≡ true)
   unfolding among
   short-alone a tree m rest e q =
-      let k = called_some (rest-10 Trees a m done) (short_with Trees done) (tree, rest) (sym (behind-10.continues Trees a m (short_with Trees done)) ∙ e) in
+      let k = called_ok (rest-10 Trees a m done) (short_with Trees done) (tree, rest) (sym (behind-10.continues Trees a m (short_with Trees done)) ∙ e) in
       elim (was (reaches to_short (k.0).0) (guided language ahead (rule depth) (any coalesced_x) (k.0).1 (λ d e. done (node (form allow_in 41) (pair (k.0).0 d)) e))
       (done (node (form allow_in 41) (pair (k.0).0 tip)) (k.0).1) (tree, rest) k.2) [
         | inl j ↦
-            let f = called_some (guided language ahead (rule depth) (any coalesced_x) (k.0).1 done) _ (tree, rest)
+            let f = called_ok (guided language ahead (rule depth) (any coalesced_x) (k.0).1 done) _ (tree, rest)
             (sym (guided-continues language ahead (rule depth) (Tree Token × List Token) (any coalesced_x) (k.0).1 _) ∙ j.1) in
-            let same = some_same _ _ f.2 in
+            let same = ok_same _ _ f.2 in
             let up = reached-tip (form allow_in 41) (k.0).0 (f.0).0 (form-other 41 refl refl) (ap (λ q. reaches left_node q.0) same ∙ q) in
-            let none : guided language ahead (rule depth) (any coalesced_x) (k.0).1 done ≡ Some (tip, (f.0).1) = f.1 ∙ ap (λ (c : Tree Token). Some (c, (f.0).1)) up.0 in
+            let none : guided language ahead (rule depth) (any coalesced_x) (k.0).1 done ≡ Ok (tip, (f.0).1) = f.1 ∙ ap (λ (c : Tree Token). Ok (c, (f.0).1)) up.0 in
             let took = tip-took depth always coalesced_x (k.0).1 (f.0).1 none in
             let ih = behind-10.alone a (k.0).0 m (k.0).1 k.1 up.1 in
             (ap (λ q. q.1) (sym same) ∙ sym took ∙ ih.0, ih.1)
         | inr j ↦
-            let same = some_same _ _ j.1 in
+            let same = ok_same _ _ j.1 in
             let up = reached-tip (form allow_in 41) (k.0).0 tip (form-other 41 refl refl) (ap (λ q. reaches left_node q.0) same ∙ q) in
             let ih = behind-10.alone a (k.0).0 m (k.0).1 k.1 up.1 in
             (ap (λ q. q.1) (sym same) ∙ ih.0, ih.1)

@@ -1,6 +1,6 @@
 -- What stands in brackets.
 use Rattle.std.proofs.Common.{true, false, Bool, ◌≡◌, ℕ, List, [], ◌∷◌, refl, ap, sym, ◌∙◌, codes}
-use Rattle.std.specs.Prelude.{Option, Some, None, is_none, if◌then◌else◌}
+use Rattle.std.specs.Prelude.{Option, Some, None, is_none, if◌then◌else◌, Ok, Err}
 use Rattle.grammar.specs.Kinds.{among, apart}
 use Rattle.grammar.specs.Reading.{firsts, nullable}
 use Rattle.grammar.specs.Tests.{InPlace}
@@ -16,16 +16,16 @@ use Rattle.js_parse.specs.declared.symbol.Symbol.{Symbol}
 use Rattle.js_parse.specs.declared.symbol.Symbol.TheVariants as s
 use Rattle.js_parse.specs.declared.part.Part.TheVariants as parts
 use Rattle.js_parse.specs.Symbols.{of_kind, same}
-use Rattle.js_parse.specs.Operators.{prefix_node}
+use Rattle.js_parse.specs.Operators.{prefix_node, is_prefix}
 use Rattle.js_parse.specs.Input.{refuse, Parser, Input, and_then, symbol, place, place_at, next, add, pure, sees, after, peek, ◌>>=◌}
 use Rattle.js_parse.specs.Grammar as g
 use Rattle.js_parse.specs.Nesting.{part_at}
 use Rattle.parse_laws.specs.Kinds.{numbered}
 use Rattle.parse_laws.specs.Trees as mk
 use Rattle.parse_laws.specs.Trees.{Parts, parts_at, place_in, symbol_in, first_token, first, second, under, Build}
-use Rattle.parse_laws.proofs.Guided.{guided, Goes}
+use Rattle.parse_laws.proofs.Guided.{guided, Goes, wrong}
 use Rattle.parse_laws.proofs.Sound.{vacant, read-front}
-use Rattle.parse_laws.proofs.Walk.{language, ahead, rule, told, built, Sim, step, step+, step-same, step-expect, sim-by, sim-by-at, sim-at, step-arrow, each-takes, at_kind, none-behind, sees-starts, none-at_end, assoc, tables}
+use Rattle.parse_laws.proofs.Walk.{language, ahead, rule, told, built, Sim, step, step+, step-same, step-expect, sim-by, sim-by-at, sim-at, step-arrow, each-takes, at_kind, dispatch, at-first, sees-starts, none-at_end, assoc, tables}
 use Rattle.parse_laws.proofs.Symbols.{only-open_paren, only-close_paren, only-open_bracket, only-close_bracket, only-new}
 use Rattle.parse_laws.proofs.Loops.{listed-sim}
 use Rattle.parse_laws.proofs.Parted.{Parted}
@@ -63,7 +63,7 @@ module _ (depth : ℕ) (h : Parted depth) where
   unfolding vacant
   element-takes = assign-takes depth h true
 
-  pub element-end : (ns : Nodes) → told (element_by s.End ([], ns)) ≡ None
+  pub element-end : (ns : Nodes) → told (element_by s.End ([], ns)) ≡ Err (wrong [])
   unfolding same
   element-end ns = (assign-sim depth h true).holds [] ns ∙ none-at_end depth (assign_rule true) (assign-takes depth h true) _
 
@@ -121,7 +121,7 @@ module _ (depth : ℕ) (h : Parted depth) where
       (λ ts ns. step-expect only-new ts ns _ _ (λ t m.
       sym (assoc (g.primary (part_at depth) (m, ns)) (g.suffixes (part_at depth) false (place_at m)) _)
       ∙ step (Expressions.sided-sim depth h false) m ns _ _ (λ a n. args-step n _ _ _
-      (λ c rest z. ap (λ b. let w = mk.after ((if b then mk.pure [] else (parts_at depth).arguments_of c) (mk.sided (parts_at depth) a ns).1) (λ arguments. mk.added (made.New (mk.sided (parts_at depth) a ns).0 arguments) (place_at ts)) in Some (w.0, (rest, w.1))) (sym z))
+      (λ c rest z. ap (λ b. let w = mk.after ((if b then mk.pure [] else (parts_at depth).arguments_of c) (mk.sided (parts_at depth) a ns).1) (λ arguments. mk.added (made.New (mk.sided (parts_at depth) a ns).0 arguments) (place_at ts)) in Ok (w.0, (rest, w.1))) (sym z))
       refl)))
 
   -- ---- an operator before an operand
@@ -136,33 +136,35 @@ module _ (depth : ℕ) (h : Parted depth) where
   abbrev pub prefix_built : ℕ → Symbol → Tree Token → Build NodeId
   prefix_built at symbol tree ns = mk.after (mk.unary (parts_at depth) (second tree) ns) (λ operand. mk.added_if operand (prefix_node symbol operand) at)
 
-  pub prefix-at : (t : Token) (ts : List Token) (ns : Nodes) (symbol : Symbol) (broken : Bool) → of_kind t.kind ≡ symbol → t.broken ≡ broken
+  pub prefix-at : (t : Token) (ts : List Token) (ns : Nodes) (symbol : Symbol) (broken : Bool) → is_prefix symbol ≡ true → of_kind t.kind ≡ symbol → t.broken ≡ broken
       → told (prefix_by symbol (t ∷ ts, ns)) ≡ at_kind depth (numbered symbol broken) prefixed_rule (t ∷ ts) (built (prefix_built t.place symbol) ns)
   unfolding at_kind tables prefixed_rule next place add guided mk.unary
-  prefix-at t ts ns s.Not false e f = step (Expressions.unary-sim depth h) ts ns _ _ (λ a rest. refl)
-  prefix-at t ts ns s.Not true e f = step (Expressions.unary-sim depth h) ts ns _ _ (λ a rest. refl)
-  prefix-at t ts ns s.BitNot false e f = step (Expressions.unary-sim depth h) ts ns _ _ (λ a rest. refl)
-  prefix-at t ts ns s.BitNot true e f = step (Expressions.unary-sim depth h) ts ns _ _ (λ a rest. refl)
-  prefix-at t ts ns s.Plus false e f = step (Expressions.unary-sim depth h) ts ns _ _ (λ a rest. refl)
-  prefix-at t ts ns s.Plus true e f = step (Expressions.unary-sim depth h) ts ns _ _ (λ a rest. refl)
-  prefix-at t ts ns s.Minus false e f = step (Expressions.unary-sim depth h) ts ns _ _ (λ a rest. refl)
-  prefix-at t ts ns s.Minus true e f = step (Expressions.unary-sim depth h) ts ns _ _ (λ a rest. refl)
-  prefix-at t ts ns s.Typeof false e f = step (Expressions.unary-sim depth h) ts ns _ _ (λ a rest. refl)
-  prefix-at t ts ns s.Typeof true e f = step (Expressions.unary-sim depth h) ts ns _ _ (λ a rest. refl)
-  prefix-at t ts ns s.Void false e f = step (Expressions.unary-sim depth h) ts ns _ _ (λ a rest. refl)
-  prefix-at t ts ns s.Void true e f = step (Expressions.unary-sim depth h) ts ns _ _ (λ a rest. refl)
-  prefix-at t ts ns s.Delete false e f = step (Expressions.unary-sim depth h) ts ns _ _ (λ a rest. refl)
-  prefix-at t ts ns s.Delete true e f = step (Expressions.unary-sim depth h) ts ns _ _ (λ a rest. refl)
-  prefix-at t ts ns s.Increment false e f = step (Expressions.unary-sim depth h) ts ns _ _ (λ a rest. refl)
-  prefix-at t ts ns s.Increment true e f = step (Expressions.unary-sim depth h) ts ns _ _ (λ a rest. refl)
-  prefix-at t ts ns s.Decrement false e f = step (Expressions.unary-sim depth h) ts ns _ _ (λ a rest. refl)
-  prefix-at t ts ns s.Decrement true e f = step (Expressions.unary-sim depth h) ts ns _ _ (λ a rest. refl)
-  prefix-at t ts ns _ false e f = none-behind (g.unary (part_at depth) (ts, ns)) _ (λ a i. refl)
-  prefix-at t ts ns _ true e f = none-behind (g.unary (part_at depth) (ts, ns)) _ (λ a i. refl)
+  prefix-at t ts ns s.Not false p e f = step (Expressions.unary-sim depth h) ts ns _ _ (λ a rest. refl)
+  prefix-at t ts ns s.Not true p e f = step (Expressions.unary-sim depth h) ts ns _ _ (λ a rest. refl)
+  prefix-at t ts ns s.BitNot false p e f = step (Expressions.unary-sim depth h) ts ns _ _ (λ a rest. refl)
+  prefix-at t ts ns s.BitNot true p e f = step (Expressions.unary-sim depth h) ts ns _ _ (λ a rest. refl)
+  prefix-at t ts ns s.Plus false p e f = step (Expressions.unary-sim depth h) ts ns _ _ (λ a rest. refl)
+  prefix-at t ts ns s.Plus true p e f = step (Expressions.unary-sim depth h) ts ns _ _ (λ a rest. refl)
+  prefix-at t ts ns s.Minus false p e f = step (Expressions.unary-sim depth h) ts ns _ _ (λ a rest. refl)
+  prefix-at t ts ns s.Minus true p e f = step (Expressions.unary-sim depth h) ts ns _ _ (λ a rest. refl)
+  prefix-at t ts ns s.Typeof false p e f = step (Expressions.unary-sim depth h) ts ns _ _ (λ a rest. refl)
+  prefix-at t ts ns s.Typeof true p e f = step (Expressions.unary-sim depth h) ts ns _ _ (λ a rest. refl)
+  prefix-at t ts ns s.Void false p e f = step (Expressions.unary-sim depth h) ts ns _ _ (λ a rest. refl)
+  prefix-at t ts ns s.Void true p e f = step (Expressions.unary-sim depth h) ts ns _ _ (λ a rest. refl)
+  prefix-at t ts ns s.Delete false p e f = step (Expressions.unary-sim depth h) ts ns _ _ (λ a rest. refl)
+  prefix-at t ts ns s.Delete true p e f = step (Expressions.unary-sim depth h) ts ns _ _ (λ a rest. refl)
+  prefix-at t ts ns s.Increment false p e f = step (Expressions.unary-sim depth h) ts ns _ _ (λ a rest. refl)
+  prefix-at t ts ns s.Increment true p e f = step (Expressions.unary-sim depth h) ts ns _ _ (λ a rest. refl)
+  prefix-at t ts ns s.Decrement false p e f = step (Expressions.unary-sim depth h) ts ns _ _ (λ a rest. refl)
+  prefix-at t ts ns s.Decrement true p e f = step (Expressions.unary-sim depth h) ts ns _ _ (λ a rest. refl)
+  prefix-at t ts ns _ _ p e f = absurd (cc (p))
 
-  pub prefix-sim : Sim depth (g.prefix (part_at depth)) prefixed_rule (mk.prefix (parts_at depth))
-  unfolding g.prefix mk.prefix prefixed_rule vacant symbol
-  prefix-sim = sim-by-at depth prefix_by prefix_built prefixed_rule refl (λ ns. none-behind (g.unary (part_at depth) (next ([], ns))) _ (λ a i. refl)) prefix-at
+  pub prefix-so : (t : Token) (ts : List Token) (ns : Nodes) → is_prefix (of_kind t.kind) ≡ true
+      → told (g.prefix (part_at depth) (t ∷ ts, ns)) ≡ guided language ahead (rule depth) prefixed_rule (t ∷ ts) (built (mk.prefix (parts_at depth)) ns)
+  unfolding g.prefix mk.prefix prefixed_rule vacant symbol place
+  prefix-so t ts ns p =
+      dispatch depth prefix_by (prefix_built t.place) prefixed_rule refl t ts ns (λ symbol broken e f. prefix-at t ts ns symbol broken (ap (λ s. is_prefix s) (sym e) ∙ p) e f)
+      ∙ at-first depth (λ at tree. prefix_built at (symbol_in tree) tree) prefixed_rule refl (t ∷ ts) ns
 
   -- ---- the body of an arrow
 
@@ -184,7 +186,7 @@ module _ (depth : ℕ) (h : Parted depth) where
   unfolding vacant
   body-takes allow_in = assign-takes depth h allow_in
 
-  pub body-end : (allow_in : Bool) (ns : Nodes) → told (body_by allow_in s.End ([], ns)) ≡ None
+  pub body-end : (allow_in : Bool) (ns : Nodes) → told (body_by allow_in s.End ([], ns)) ≡ Err (wrong [])
   unfolding same
   body-end allow_in ns = (assign-sim depth h allow_in).holds [] ns ∙ none-at_end depth (assign_rule allow_in) (assign-takes depth h allow_in) _
 

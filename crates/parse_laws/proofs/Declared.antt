@@ -1,6 +1,6 @@
 -- Declarations.
 use Rattle.std.proofs.Common.{true, false, Bool, ◌≡◌, ℕ, List, [], ◌∷◌, length, refl, ◌∙◌, codes}
-use Rattle.std.specs.Prelude.{Option, Some, None, if◌then◌else◌, not}
+use Rattle.std.specs.Prelude.{Option, Some, None, if◌then◌else◌, not, Err}
 use Rattle.grammar.specs.Reading.{nullable}
 use Rattle.grammar.specs.Tests.{InPlace}
 use Rattle.grammar.specs.Grammar.{leaf, pair, both, empty, token, entry}
@@ -20,9 +20,9 @@ use Rattle.js_parse.specs.Nesting.{part_at}
 use Rattle.parse_laws.specs.Kinds.{numbered}
 use Rattle.parse_laws.specs.Trees as mk
 use Rattle.parse_laws.specs.Trees.{Parts, parts_at, place_in, symbol_in, first_token, first, second, under, Build}
-use Rattle.parse_laws.proofs.Guided.{guided}
+use Rattle.parse_laws.proofs.Guided.{guided, wrong}
 use Rattle.parse_laws.proofs.Sound.{vacant}
-use Rattle.parse_laws.proofs.Walk.{language, ahead, rule, told, built, Sim, step, eat-step, eat-need, sim-by, at_kind, kind-at, none-at_end, tables}
+use Rattle.parse_laws.proofs.Walk.{refusals, language, ahead, rule, told, built, Sim, step, eat-step, eat-need, sim-by, at_kind, kind-at, none-at_end, tables}
 use Rattle.parse_laws.proofs.Symbols
 use Rattle.parse_laws.proofs.Loops.{commas-loop, none-first}
 use Rattle.parse_laws.proofs.Parted.{Parted}
@@ -47,7 +47,7 @@ module _ (depth : ℕ) (h : Parted depth) where
   absent-initial allow_in ns ts = refl
 
   pub initial-sim : (allow_in required : Bool) → Sim depth (st.initial (part_at depth) allow_in required) (initial_x allow_in required) (mk.initial (parts_at depth))
-  unfolding st.initial
+  unfolding st.initial refusals
   initial-sim allow_in true = record {
     holds = λ ts ns. eat-need depth Symbols.only-assign ts ns (initial_by allow_in true) (assign allow_in) (built (mk.initial (parts_at depth)) ns)
         (λ t rest. present-assign allow_in ns t rest) refl;
@@ -81,7 +81,7 @@ module _ (depth : ℕ) (h : Parted depth) where
   binding-takes true allow_in = refl
   binding-takes false allow_in = refl
 
-  pub bind-end : (ns : Nodes) → told (g.bind (part_at depth) ([], ns)) ≡ None
+  pub bind-end : (ns : Nodes) → told (g.bind (part_at depth) ([], ns)) ≡ Err (wrong [])
   unfolding vacant
   bind-end ns = (bind-sim depth h).holds [] ns ∙ none-at_end depth bind refl _
 

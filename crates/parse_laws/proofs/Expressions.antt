@@ -1,6 +1,6 @@
 -- Expressions.
 use Rattle.std.proofs.Common.{true, false, Bool, ◌≡◌, ℕ, zero, suc, List, [], ◌∷◌, length, refl, ap, sym, ◌∙◌, codes}
-use Rattle.std.specs.Prelude.{Option, Some, None, if◌then◌else◌}
+use Rattle.std.specs.Prelude.{Option, Some, None, if◌then◌else◌, Ok, Err}
 use Rattle.grammar.specs.Kinds.{among}
 use Rattle.grammar.specs.Reading.{firsts}
 use Rattle.grammar.specs.Grammar.{Tree, tip, pair, both, either, call, token, prefer, line, starts, entry}
@@ -24,9 +24,9 @@ use Rattle.js_parse.specs.Nesting.{part_at}
 use Rattle.parse_laws.specs.Kinds.{numbered}
 use Rattle.parse_laws.specs.Trees as mk
 use Rattle.parse_laws.specs.Trees.{first_token, Parts, parts_at, place_in, symbol_in, first, second, under, Build}
-use Rattle.parse_laws.proofs.Guided.{guided, many_of, Goes, Was, called, done}
+use Rattle.parse_laws.proofs.Guided.{guided, many_of, Goes, Was, called, done, wrong}
 use Rattle.parse_laws.proofs.Sound.{vacant}
-use Rattle.parse_laws.proofs.Walk.{language, ahead, rule, told, built, Sim, step, step-same, step-shown, goes-so, starts-neither, behind-new, open_kinds, at_kind, sim-by, sim-by-at, dispatch, dispatch-or, step-any_name, at-first, none-at_end, assoc, tables}
+use Rattle.parse_laws.proofs.Walk.{language, ahead, rule, told, built, Sim, step, step-so, step-same, step-shown, goes-so, starts-neither, behind-new, open_kinds, at_kind, sim-by, sim-by-at, dispatch, dispatch-or, step-any_name, at-first, none-at_end, assoc, tables}
 use Rattle.parse_laws.proofs.Loops.{none-first}
 use Rattle.parse_laws.proofs.Parted.{Parted}
 
@@ -115,7 +115,7 @@ module _ (depth : ℕ) (h : Parted depth) where
       → (symbol : Symbol) (broken : Bool) → of_kind t.kind ≡ symbol → t.broken ≡ broken
       → told (and_then (suffix_by (part_at depth) calls at left symbol (t ∷ ts, ns)) (g.go_on (part_at depth) (g.suffixes_from (part_at depth) calls at n) left))
       ≡ (if among (firsts language.heads (suffix_rule calls)) (numbered symbol broken) then
-      at_kind depth (numbered symbol broken) (suffix_rule calls) (t ∷ ts) (behind_suffix calls at n left ns symbol) else Some (left, (t ∷ ts, ns)))
+      at_kind depth (numbered symbol broken) (suffix_rule calls) (t ∷ ts) (behind_suffix calls at n left ns symbol) else Ok (left, (t ∷ ts, ns)))
   unfolding at_kind tables text next add first_token guided
   suffix-at true at n t ts ns left ih s.Dot false e f = assoc (any_name (ts, ns)) _ _ ∙ step-any_name ts ns _ _ (λ u rest. ih rest _ _)
   suffix-at true at n t ts ns left ih s.Dot true e f = assoc (any_name (ts, ns)) _ _ ∙ step-any_name ts ns _ _ (λ u rest. ih rest _ _)
@@ -137,10 +137,10 @@ module _ (depth : ℕ) (h : Parted depth) where
   suffixes-loop calls at zero ts ns left = refl
   suffixes-loop true at (suc n) [] ns left = refl
   suffixes-loop false at (suc n) [] ns left = refl
-  suffixes-loop true at (suc n) (t ∷ ts) ns left = dispatch-or depth (suffix_rule true) refl t ts (behind_suffix true at n left ns) (Some (left, (t ∷ ts, ns)))
+  suffixes-loop true at (suc n) (t ∷ ts) ns left = dispatch-or depth (suffix_rule true) refl t ts (behind_suffix true at n left ns) (Ok (left, (t ∷ ts, ns)))
       (λ symbol. told (and_then (suffix_by (part_at depth) true at left symbol (t ∷ ts, ns)) (g.go_on (part_at depth) (g.suffixes_from (part_at depth) true at n) left)))
       (suffix-at true at n t ts ns left (suffixes-loop true at n))
-  suffixes-loop false at (suc n) (t ∷ ts) ns left = dispatch-or depth (suffix_rule false) refl t ts (behind_suffix false at n left ns) (Some (left, (t ∷ ts, ns)))
+  suffixes-loop false at (suc n) (t ∷ ts) ns left = dispatch-or depth (suffix_rule false) refl t ts (behind_suffix false at n left ns) (Ok (left, (t ∷ ts, ns)))
       (λ symbol. told (and_then (suffix_by (part_at depth) false at left symbol (t ∷ ts, ns)) (g.go_on (part_at depth) (g.suffixes_from (part_at depth) false at n) left)))
       (suffix-at false at n t ts ns left (suffixes-loop false at n))
 
@@ -161,9 +161,9 @@ module _ (depth : ℕ) (h : Parted depth) where
   unfolding firsts entry heads
   suffix-off mid o p = starts-neither open_kinds (firsts language.heads member_suffix) mid p o
 
-  pub called-is : (w : Was Token) {q : Tree Token × List Token} → called w done ≡ Some q → w ≡ Some q
-  called-is None e = absurd (cc (e))
-  called-is (Some p) e = e
+  pub called-is : (w : Was Token) {q : Tree Token × List Token} → called w done ≡ Ok q → w ≡ Ok q
+  called-is (Err d) e = absurd (cc (e))
+  called-is (Ok p) e = e
 
   pub no-suffix : (calls : Bool) (n : ℕ) (mid : List Token) (k : Goes Token (NodeId × Input)) → starts language (among (firsts language.heads member_suffix)) mid ≡ false
       → starts language (among open_kinds) mid ≡ false
@@ -190,7 +190,7 @@ module _ (depth : ℕ) (h : Parted depth) where
       (λ tree rest. let w = (parts_at depth).node_of parts.New tree ns in told (g.suffixes (part_at depth) calls at w.0 (rest, w.1))) (λ tree rest. refl)
       ∙ goes-so depth (call 13) (t ∷ ts) _ _ (λ a mid e. by a mid (starts language (among open_kinds) mid) refl e)
     where
-      by : (a : Tree Token) (mid : List Token) (b : Bool) → starts language (among open_kinds) mid ≡ b → guided language ahead (rule depth) (call 13) (t ∷ ts) done ≡ Some (a, mid)
+      by : (a : Tree Token) (mid : List Token) (b : Bool) → starts language (among open_kinds) mid ≡ b → guided language ahead (rule depth) (call 13) (t ∷ ts) done ≡ Ok (a, mid)
           → (if b then guided language ahead (rule depth) (call 14) mid (λ c rest. let w = (parts_at depth).node_of parts.New (pair a c) ns in told (g.suffixes (part_at depth) calls at w.0 (rest, w.1)))
           else (let w = (parts_at depth).node_of parts.New (pair a tip) ns in told (g.suffixes (part_at depth) calls at w.0 (mid, w.1))))
           ≡ (if b then guided language ahead (rule depth) (call 14) mid (λ c rest. guided language ahead (rule depth) (any (suffix_rule calls)) rest (λ m end. built (sided_built at s.New) ns (pair a (pair c m)) end))
@@ -216,7 +216,7 @@ module _ (depth : ℕ) (h : Parted depth) where
   -- Primary and what follows it, at a place
   pub sided-placed : (calls : Bool) (at : ℕ) (ts : List Token) (ns : Nodes) → told (and_then (g.primary (part_at depth) (ts, ns)) (g.suffixes (part_at depth) calls at))
       ≡ guided language ahead (rule depth) (sided_rule calls) ts (built (λ tree. sided_built at (symbol_in tree) tree) ns)
-  unfolding g.primary symbol
+  unfolding g.primary symbol tables
   sided-placed calls at [] ns = sym (none-at_end depth (sided_rule calls) (sided-takes calls) _)
   sided-placed calls at (t ∷ ts) ns =
       dispatch depth (λ symbol i. and_then (primary_by (part_at depth) symbol i) (g.suffixes (part_at depth) calls at)) (sided_built at) (sided_rule calls) (sided-takes calls) t ts ns (sided-at calls at t ts ns)
@@ -250,12 +250,12 @@ module _ (depth : ℕ) (h : Parted depth) where
 
   abbrev pub behind_left : ℕ → NodeId → Nodes → Symbol → Goes Token ((NodeId × Bool) × Input)
   behind_left at left ns symbol tree rest =
-      let w = mk.added_if left (postfix_node symbol left) at ns in Some ((w.0, mk.absent tree), (rest, w.1))
+      let w = mk.added_if left (postfix_node symbol left) at ns in Ok ((w.0, mk.absent tree), (rest, w.1))
 
   pub postfixed-at : (at : ℕ) (left : NodeId) (ns : Nodes) (t : Token) (ts : List Token) (symbol : Symbol) (broken : Bool) → of_kind t.kind ≡ symbol → t.broken ≡ broken
       → told (postfixed left at (if t.broken then None else postfix_node symbol left) (t ∷ ts, ns))
       ≡ (if among (firsts {A = Token} language.heads (token postfix_kinds)) (numbered symbol broken) then at_kind depth (numbered symbol broken) (token postfix_kinds) (t ∷ ts) (behind_left at left ns symbol)
-      else Some ((left, true), (t ∷ ts, ns)))
+      else Ok ((left, true), (t ∷ ts, ns)))
   unfolding at_kind tables next add first_token
   postfixed-at at left ns t ts s.Increment false e f = ap (λ b. told (postfixed left at (if b then None else postfix_node s.Increment left) (t ∷ ts, ns))) f
   postfixed-at at left ns t ts s.Increment true e f = ap (λ b. told (postfixed left at (if b then None else postfix_node s.Increment left) (t ∷ ts, ns))) f
@@ -269,13 +269,13 @@ module _ (depth : ℕ) (h : Parted depth) where
       ≡ guided language ahead (rule depth) (optional (token postfix_kinds)) ts (λ tree rest. behind_left at left ns (symbol_in tree) tree rest)
   unfolding guided is_broken symbol first_token
   postfixed-step at left ns [] = refl
-  postfixed-step at left ns (t ∷ ts) = dispatch-or depth (token postfix_kinds) (token-takes postfix_kinds) t ts (behind_left at left ns) (Some ((left, true), (t ∷ ts, ns)))
+  postfixed-step at left ns (t ∷ ts) = dispatch-or depth (token postfix_kinds) (token-takes postfix_kinds) t ts (behind_left at left ns) (Ok ((left, true), (t ∷ ts, ns)))
       (λ symbol. told (postfixed left at (if t.broken then None else postfix_node symbol left) (t ∷ ts, ns))) (postfixed-at at left ns t ts)
 
   pub postfix-at : (t : Token) (ts : List Token) (ns : Nodes)
       → told (g.postfix (part_at depth) (t ∷ ts, ns)) ≡ guided language ahead (rule depth) (both (line 29 left_rule) (optional (token postfix_kinds))) (t ∷ ts)
       (λ tree rest. let w = mk.after (mk.sided (parts_at depth) (under (first tree)) ns) (λ left. mk.added_if left (postfix_node (symbol_in (second tree)) left) t.place) in
-      Some ((w.0, mk.absent (second tree)), (rest, w.1)))
+      Ok ((w.0, mk.absent (second tree)), (rest, w.1)))
   unfolding g.postfix guided place
   postfix-at t ts ns = step left-sim (t ∷ ts) ns _ _ (λ a mid. postfixed-step t.place _ _ mid)
 
@@ -285,24 +285,24 @@ module _ (depth : ℕ) (h : Parted depth) where
   pub unary-at : (t : Token) (ts : List Token) (ns : Nodes) (symbol : Symbol) (broken : Bool) → of_kind t.kind ≡ symbol → t.broken ≡ broken
       → told (unary_by (is_prefix symbol) (t ∷ ts, ns)) ≡ at_kind depth (numbered symbol broken) unary_rule (t ∷ ts) (built (unary_built t.place symbol) ns)
   unfolding at_kind tables unary_rule guided
-  unary-at t ts ns s.Not false e f = step h.unary_part (t ∷ ts) ns _ _ (λ a rest. refl)
-  unary-at t ts ns s.Not true e f = step h.unary_part (t ∷ ts) ns _ _ (λ a rest. refl)
-  unary-at t ts ns s.BitNot false e f = step h.unary_part (t ∷ ts) ns _ _ (λ a rest. refl)
-  unary-at t ts ns s.BitNot true e f = step h.unary_part (t ∷ ts) ns _ _ (λ a rest. refl)
-  unary-at t ts ns s.Plus false e f = step h.unary_part (t ∷ ts) ns _ _ (λ a rest. refl)
-  unary-at t ts ns s.Plus true e f = step h.unary_part (t ∷ ts) ns _ _ (λ a rest. refl)
-  unary-at t ts ns s.Minus false e f = step h.unary_part (t ∷ ts) ns _ _ (λ a rest. refl)
-  unary-at t ts ns s.Minus true e f = step h.unary_part (t ∷ ts) ns _ _ (λ a rest. refl)
-  unary-at t ts ns s.Typeof false e f = step h.unary_part (t ∷ ts) ns _ _ (λ a rest. refl)
-  unary-at t ts ns s.Typeof true e f = step h.unary_part (t ∷ ts) ns _ _ (λ a rest. refl)
-  unary-at t ts ns s.Void false e f = step h.unary_part (t ∷ ts) ns _ _ (λ a rest. refl)
-  unary-at t ts ns s.Void true e f = step h.unary_part (t ∷ ts) ns _ _ (λ a rest. refl)
-  unary-at t ts ns s.Delete false e f = step h.unary_part (t ∷ ts) ns _ _ (λ a rest. refl)
-  unary-at t ts ns s.Delete true e f = step h.unary_part (t ∷ ts) ns _ _ (λ a rest. refl)
-  unary-at t ts ns s.Increment false e f = step h.unary_part (t ∷ ts) ns _ _ (λ a rest. refl)
-  unary-at t ts ns s.Increment true e f = step h.unary_part (t ∷ ts) ns _ _ (λ a rest. refl)
-  unary-at t ts ns s.Decrement false e f = step h.unary_part (t ∷ ts) ns _ _ (λ a rest. refl)
-  unary-at t ts ns s.Decrement true e f = step h.unary_part (t ∷ ts) ns _ _ (λ a rest. refl)
+  unary-at t ts ns s.Not false e f = step-so depth _ (call 12) ((parts_at depth).node_of parts.Unary) (t ∷ ts) ns _ _ (h.unary_part t ts ns (ap (λ s. is_prefix s) e)) (λ a rest. refl)
+  unary-at t ts ns s.Not true e f = step-so depth _ (call 12) ((parts_at depth).node_of parts.Unary) (t ∷ ts) ns _ _ (h.unary_part t ts ns (ap (λ s. is_prefix s) e)) (λ a rest. refl)
+  unary-at t ts ns s.BitNot false e f = step-so depth _ (call 12) ((parts_at depth).node_of parts.Unary) (t ∷ ts) ns _ _ (h.unary_part t ts ns (ap (λ s. is_prefix s) e)) (λ a rest. refl)
+  unary-at t ts ns s.BitNot true e f = step-so depth _ (call 12) ((parts_at depth).node_of parts.Unary) (t ∷ ts) ns _ _ (h.unary_part t ts ns (ap (λ s. is_prefix s) e)) (λ a rest. refl)
+  unary-at t ts ns s.Plus false e f = step-so depth _ (call 12) ((parts_at depth).node_of parts.Unary) (t ∷ ts) ns _ _ (h.unary_part t ts ns (ap (λ s. is_prefix s) e)) (λ a rest. refl)
+  unary-at t ts ns s.Plus true e f = step-so depth _ (call 12) ((parts_at depth).node_of parts.Unary) (t ∷ ts) ns _ _ (h.unary_part t ts ns (ap (λ s. is_prefix s) e)) (λ a rest. refl)
+  unary-at t ts ns s.Minus false e f = step-so depth _ (call 12) ((parts_at depth).node_of parts.Unary) (t ∷ ts) ns _ _ (h.unary_part t ts ns (ap (λ s. is_prefix s) e)) (λ a rest. refl)
+  unary-at t ts ns s.Minus true e f = step-so depth _ (call 12) ((parts_at depth).node_of parts.Unary) (t ∷ ts) ns _ _ (h.unary_part t ts ns (ap (λ s. is_prefix s) e)) (λ a rest. refl)
+  unary-at t ts ns s.Typeof false e f = step-so depth _ (call 12) ((parts_at depth).node_of parts.Unary) (t ∷ ts) ns _ _ (h.unary_part t ts ns (ap (λ s. is_prefix s) e)) (λ a rest. refl)
+  unary-at t ts ns s.Typeof true e f = step-so depth _ (call 12) ((parts_at depth).node_of parts.Unary) (t ∷ ts) ns _ _ (h.unary_part t ts ns (ap (λ s. is_prefix s) e)) (λ a rest. refl)
+  unary-at t ts ns s.Void false e f = step-so depth _ (call 12) ((parts_at depth).node_of parts.Unary) (t ∷ ts) ns _ _ (h.unary_part t ts ns (ap (λ s. is_prefix s) e)) (λ a rest. refl)
+  unary-at t ts ns s.Void true e f = step-so depth _ (call 12) ((parts_at depth).node_of parts.Unary) (t ∷ ts) ns _ _ (h.unary_part t ts ns (ap (λ s. is_prefix s) e)) (λ a rest. refl)
+  unary-at t ts ns s.Delete false e f = step-so depth _ (call 12) ((parts_at depth).node_of parts.Unary) (t ∷ ts) ns _ _ (h.unary_part t ts ns (ap (λ s. is_prefix s) e)) (λ a rest. refl)
+  unary-at t ts ns s.Delete true e f = step-so depth _ (call 12) ((parts_at depth).node_of parts.Unary) (t ∷ ts) ns _ _ (h.unary_part t ts ns (ap (λ s. is_prefix s) e)) (λ a rest. refl)
+  unary-at t ts ns s.Increment false e f = step-so depth _ (call 12) ((parts_at depth).node_of parts.Unary) (t ∷ ts) ns _ _ (h.unary_part t ts ns (ap (λ s. is_prefix s) e)) (λ a rest. refl)
+  unary-at t ts ns s.Increment true e f = step-so depth _ (call 12) ((parts_at depth).node_of parts.Unary) (t ∷ ts) ns _ _ (h.unary_part t ts ns (ap (λ s. is_prefix s) e)) (λ a rest. refl)
+  unary-at t ts ns s.Decrement false e f = step-so depth _ (call 12) ((parts_at depth).node_of parts.Unary) (t ∷ ts) ns _ _ (h.unary_part t ts ns (ap (λ s. is_prefix s) e)) (λ a rest. refl)
+  unary-at t ts ns s.Decrement true e f = step-so depth _ (call 12) ((parts_at depth).node_of parts.Unary) (t ∷ ts) ns _ _ (h.unary_part t ts ns (ap (λ s. is_prefix s) e)) (λ a rest. refl)
   unary-at t ts ns _ false e f = postfix-at t ts ns
   unary-at t ts ns _ true e f = postfix-at t ts ns
 
@@ -310,7 +310,7 @@ module _ (depth : ℕ) (h : Parted depth) where
   unfolding unary_rule left_rule primary_rule vacant
   unary-takes = refl
 
-  pub postfix-end : (ns : Nodes) → told (g.postfix (part_at depth) ([], ns)) ≡ None
+  pub postfix-end : (ns : Nodes) → told (g.postfix (part_at depth) ([], ns)) ≡ Err (wrong [])
   unfolding g.postfix
   postfix-end ns = none-first (g.left_side (part_at depth) ([], ns)) _ (left-sim.holds [] ns ∙ none-at_end depth left_rule left-takes _)
 

@@ -1,6 +1,6 @@
 -- The heads of loops.
 use Rattle.std.proofs.Common.{true, false, Bool, ◌≡◌, ℕ, List, [], ◌∷◌, refl, ap, sym, ◌∙◌, codes}
-use Rattle.std.specs.Prelude.{Option, Some, None, if◌then◌else◌, not, ◌||◌, is_none}
+use Rattle.std.specs.Prelude.{Option, Some, None, if◌then◌else◌, not, ◌||◌, is_none, Ok, Err}
 use Rattle.grammar.specs.Kinds.{among, apart}
 use Rattle.grammar.proofs.Sets.{off-apart}
 use Rattle.grammar.specs.Reading.{firsts, nullable}
@@ -23,7 +23,7 @@ use Rattle.js_parse.specs.Nesting.{part_at}
 use Rattle.parse_laws.specs.Kinds.{numbered, token_kind}
 use Rattle.parse_laws.specs.Trees as mk
 use Rattle.parse_laws.specs.Trees.{Parts, parts_at, place_in, symbol_in, first_token, first, second, under, Build}
-use Rattle.parse_laws.proofs.Guided.{taking, guided, Goes, done}
+use Rattle.parse_laws.proofs.Guided.{taking, guided, Goes, done, wrong}
 use Rattle.parse_laws.proofs.Sound.{vacant, read-front}
 use Rattle.parse_laws.proofs.Walk.{Only, not-begun, language, ahead, rule, told, built, Sim, step, step+, step-same, step-expect, eat-or, sim-by-at, at_kind, at-kind, kind-at, sees-starts, goes-so, none-at_end, assoc, each-takes, tables}
 use Rattle.parse_laws.proofs.Symbols
@@ -38,13 +38,13 @@ pub true-by : (b : Bool) → (b ≡ false → ⊥) → b ≡ true
 true-by true f = refl
 true-by false f = absurd (f refl)
 
-pub taking-none : {C : Type 0} (kinds : List ℕ) (ts : List Token) (k : Goes Token C) → starts language (among kinds) ts ≡ false → taking language kinds ts k ≡ None
+pub taking-none : {C : Type 0} (kinds : List ℕ) (ts : List Token) (k : Goes Token C) → starts language (among kinds) ts ≡ false → taking language kinds ts k ≡ Err (wrong ts)
 taking-none kinds [] k e = refl
 taking-none kinds (t ∷ ts) k e = rw e refl
 
 module _ (depth : ℕ) (h : Parted depth) where
   pub expression-off : (ts : List Token) (ns : Nodes) → starts language (among (firsts language.heads (expr true))) ts ≡ false
-      → guided language ahead (rule depth) (expr_rule true) ts (built (mk.expression (parts_at depth)) ns) ≡ None
+      → guided language ahead (rule depth) (expr_rule true) ts (built (mk.expression (parts_at depth)) ns) ≡ Err (wrong ts)
   unfolding guided InPlace rules entry nullable
   expression-off ts ns i = not-begun depth (expr true) refl refl ts (built (mk.expression (parts_at depth)) ns) i
 
@@ -125,7 +125,7 @@ module _ (depth : ℕ) (h : Parted depth) where
       → told (st.of_head (part_at depth) constant bound (rest, ns)) ≡ guided language ahead (rule depth) (assign true) rest (λ b m. taking language shut m (λ c end. declared_k constant at bound ns (pair (leaf t) b) end))
   unfolding st.of_head guided first_token
   of-step constant at bound ns t rest e = step (assign-sim depth h true) rest ns _ _ (λ a m. step-expect Symbols.only-close_paren m _ _ _ (λ u end.
-      ap (λ q. let w = mk.declared_by (parts_at depth) q constant at bound (pair (leaf t) a) ns in Some (w.0, (end, w.1))) (sym e)))
+      ap (λ q. let w = mk.declared_by (parts_at depth) q constant at bound (pair (leaf t) a) ns in Ok (w.0, (end, w.1))) (sym e)))
 
   pub no-of : (constant required : Bool) (symbol : Symbol) (broken : Bool) → among (firsts language.heads (rest_x constant required)) (numbered symbol broken) ≡ true → same symbol s.Of ≡ false
   unfolding tables same
@@ -160,7 +160,7 @@ module _ (depth : ℕ) (h : Parted depth) where
   rest-full false true = (refl, refl)
   rest-full false false = (refl, refl)
 
-  pub rest-other : (constant required : Bool) (ts rest : List Token) (tree : Tree Token) → guided language ahead (rule depth) (rest_x constant required) ts done ≡ Some (tree, rest)
+  pub rest-other : (constant required : Bool) (ts rest : List Token) (tree : Tree Token) → guided language ahead (rule depth) (rest_x constant required) ts done ≡ Ok (tree, rest)
       → same (symbol_in tree) s.Of ≡ false
   unfolding token_kind
   rest-other constant required ts rest tree e =
@@ -173,7 +173,7 @@ module _ (depth : ℕ) (h : Parted depth) where
       → told (st.declared_head (part_at depth) constant at named_ bound (ts, ns))
       ≡ guided language ahead (rule depth) (rest_x constant (constant || not named_)) ts (λ b m. taking language shut m (λ c rest. declared_k constant at bound ns b rest))
   rest-step constant at named_ bound ts ns = declared_rest constant at named_ bound ts ns ∙ goes-so depth (rest_x constant (constant || not named_)) ts _ _ (λ tree m e.
-      ap (λ f. taking language shut m (λ c rest. let w = f ns in Some (w.0, (rest, w.1)))) (not-of (symbol_in tree) constant at bound tree (rest-other constant (constant || not named_) ts m tree e)))
+      ap (λ f. taking language shut m (λ c rest. let w = f ns in Ok (w.0, (rest, w.1)))) (not-of (symbol_in tree) constant at bound tree (rest-other constant (constant || not named_) ts m tree e)))
 
   -- behind a binding: `of`, or the rest of a declaration
   pub behind-binding : (constant : Bool) (at : ℕ) (named_ : Bool) (bound : NodeId) (ts : List Token) (ns : Nodes)
@@ -236,26 +236,26 @@ module _ (depth : ℕ) (h : Parted depth) where
   head_x = either (both (token (kinds (word (codes "let") ∷ []))) let_x) (either (both (token (kinds (word (codes "const") ∷ []))) (both bind (either of_x (rest_x true true)))) (either (both (expr false) loop_rest) loop_rest))
 
   pub expression-gone : {C : Type 0} (t : Token) (ts : List Token) (k : Goes Token C) → among (firsts language.heads (expr false)) (token_kind t) ≡ false
-      → guided language ahead (rule depth) (expr_rule false) (t ∷ ts) k ≡ None
+      → guided language ahead (rule depth) (expr_rule false) (t ∷ ts) k ≡ Err (wrong (t ∷ ts))
   unfolding guided InPlace rules entry nullable
   expression-gone t ts k e = not-begun depth (expr false) refl refl (t ∷ ts) k e
 
   pub expression-head : (t : Token) (ts : List Token) (ns : Nodes) → told (and_then (g.expression (part_at depth) false (t ∷ ts, ns)) (λ start. st.loop_head (part_at depth) (Some start)))
       ≡ guided language ahead (rule depth) (expr_rule false) (t ∷ ts) (λ a m. guided language ahead (rule depth) (both loop_rest (token shut)) m
-      (λ b rest. let w = mk.after (mk.expression (parts_at depth) a ns) (λ start. mk.loop_head (parts_at depth) (Some start) (first b)) in Some (w.0, (rest, w.1))))
+      (λ b rest. let w = mk.after (mk.expression (parts_at depth) a ns) (λ start. mk.loop_head (parts_at depth) (Some start) (first b)) in Ok (w.0, (rest, w.1))))
   expression-head t ts ns = step (expression-sim depth h false) (t ∷ ts) ns _ _ (λ a m. step-same (loop-step _) m _ _ (λ b rest. refl))
 
   pub expression-or : {C : Type 0} (t : Token) (ts : List Token) (symbol : Symbol) (broken : Bool) → of_kind t.kind ≡ symbol → t.broken ≡ broken → (k : Goes Token C)
       → guided language ahead (rule depth) (expr_rule false) (t ∷ ts) k
-      ≡ (if among (firsts language.heads (expr false)) (numbered symbol broken) then guided language ahead (rule depth) (expr_rule false) (t ∷ ts) k else None)
+      ≡ (if among (firsts language.heads (expr false)) (numbered symbol broken) then guided language ahead (rule depth) (expr_rule false) (t ∷ ts) k else Err (wrong (t ∷ ts)))
   unfolding guided token_kind
   expression-or t ts symbol broken e f k =
       by (among (firsts language.heads (expr false)) (token_kind t)) refl
-      ∙ ap (λ s. if among (firsts language.heads (expr false)) (numbered s t.broken) then guided language ahead (rule depth) (expr_rule false) (t ∷ ts) k else None) e
-      ∙ ap (λ b. if among (firsts language.heads (expr false)) (numbered symbol b) then guided language ahead (rule depth) (expr_rule false) (t ∷ ts) k else None) f
+      ∙ ap (λ s. if among (firsts language.heads (expr false)) (numbered s t.broken) then guided language ahead (rule depth) (expr_rule false) (t ∷ ts) k else Err (wrong (t ∷ ts))) e
+      ∙ ap (λ b. if among (firsts language.heads (expr false)) (numbered symbol b) then guided language ahead (rule depth) (expr_rule false) (t ∷ ts) k else Err (wrong (t ∷ ts))) f
     where
       by : (b : Bool) → among (firsts language.heads (expr false)) (token_kind t) ≡ b → guided language ahead (rule depth) (expr_rule false) (t ∷ ts) k
-          ≡ (if b then guided language ahead (rule depth) (expr_rule false) (t ∷ ts) k else None)
+          ≡ (if b then guided language ahead (rule depth) (expr_rule false) (t ∷ ts) k else Err (wrong (t ∷ ts)))
       by true e = refl
       by false e = expression-gone t ts k e
 
@@ -275,7 +275,7 @@ module _ (depth : ℕ) (h : Parted depth) where
   unfolding vacant
   head-takes = ap (λ b. if ((if b then false else false) || false) then false else false) (expr-takes depth h false)
 
-  pub head-end : (ns : Nodes) → told (head_by s.End ([], ns)) ≡ None
+  pub head-end : (ns : Nodes) → told (head_by s.End ([], ns)) ≡ Err (wrong [])
   head-end ns = none-first (g.expression (part_at depth) false ([], ns)) _ ((expression-sim depth h false).holds [] ns ∙ none-at_end depth (expr_rule false) (expr-takes depth h false) _)
 
   pub head-sim : Sim depth (peek >>= head_by) (both head_x (token shut)) (λ tree. mk.head_by (parts_at depth) (symbol_in tree) (place_in tree) (first tree))

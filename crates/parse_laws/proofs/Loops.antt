@@ -12,6 +12,7 @@ use Rattle.js_tree.specs.Nodes.{Nodes}
 use Rattle.js_tree.specs.declared.node.NodeId.{NodeId}
 use Rattle.js_grammar.specs.Kinds.{kinds, mark}
 use Rattle.js_grammar.specs.Script.{any, always, optional, has_member, listed}
+use Rattle.js_parse.specs.declared.fault.Fault.{Fault}
 use Rattle.js_parse.specs.declared.symbol.Symbol.{Symbol}
 use Rattle.js_parse.specs.declared.symbol.Symbol.TheVariants as s
 use Rattle.js_parse.specs.declared.operators.Infix.{Infix}
@@ -22,9 +23,9 @@ use Rattle.js_parse.specs.Grammar as g
 use Rattle.parse_laws.specs.Kinds.{numbered, token_kind}
 use Rattle.parse_laws.specs.Trees as mk
 use Rattle.parse_laws.specs.Trees.{Build, first_token, absent, first, second}
-use Rattle.parse_laws.proofs.Guided.{Goes, done, taking, guided, many_of}
+use Rattle.parse_laws.proofs.Guided.{Goes, done, taking, guided, many_of, Told, wrong}
 use Rattle.parse_laws.proofs.Sound.{vacant, read-front}
-use Rattle.parse_laws.proofs.Walk.{language, ahead, rule, told, built, Sim, Only, step, step+, step-expect, eat-or, assoc, none-at_end, not-begun, each-takes}
+use Rattle.parse_laws.proofs.Walk.{language, ahead, rule, told, built, Sim, Only, step, step+, step-expect, eat-or, assoc, none-at_end, not-begun, each-takes, tables}
 use Rattle.parse_laws.proofs.Symbols.{only-comma}
 
 -- ---- operands with operators between
@@ -49,14 +50,14 @@ module _ (depth : ℕ) {read : Parser NodeId} {x : Grammar Token} {b : Tree Toke
       by (chain-loop known n) (infix_at level allow_in (of_kind t.kind)) (infix_of (of_kind t.kind)) (among kinds (token_kind t)) refl (known.joins (of_kind t.kind) t.broken)
       ∙ ap (λ f. if among f (token_kind t) then (if among kinds (token_kind t) then guided language ahead (rule depth) x ts (λ c rest.
       many_of language (among (kinds ++ [])) always (guided language ahead (rule depth) (both (token kinds) x)) n rest
-      (λ d end. built (mk.chain b at left) ns (pair (pair (leaf t) c) d) end)) else None) else built (mk.chain b at left) ns tip (t ∷ ts)) (sym (append-nil kinds))
+      (λ d end. built (mk.chain b at left) ns (pair (pair (leaf t) c) d) end)) else Err (wrong (t ∷ ts))) else built (mk.chain b at left) ns tip (t ∷ ts)) (sym (append-nil kinds))
     where
       by : ((rest : List Token) (ns : Nodes) (left : NodeId) → told (g.chain_from read level allow_in at n left (rest, ns))
           ≡ many_of language (among (kinds ++ [])) always (guided language ahead (rule depth) (both (token kinds) x)) n rest (built (mk.chain b at left) ns))
           → (o p : Option Infix) (v : Bool) → infix_of (of_kind t.kind) ≡ p → Joins o p v → told (g.linked read (g.chain_from read level allow_in at n) at left o (t ∷ ts, ns))
           ≡ (if v then (if v then guided language ahead (rule depth) x ts (λ c rest.
           many_of language (among (kinds ++ [])) always (guided language ahead (rule depth) (both (token kinds) x)) n rest
-          (λ d end. built (mk.chain b at left) ns (pair (pair (leaf t) c) d) end)) else None) else built (mk.chain b at left) ns tip (t ∷ ts))
+          (λ d end. built (mk.chain b at left) ns (pair (pair (leaf t) c) d) end)) else Err (wrong (t ∷ ts))) else built (mk.chain b at left) ns tip (t ∷ ts))
       by ih None p true q j = absurd (cc (j))
       by ih None p false q j = refl
       by ih (Some o) p false q j = absurd (let k = j.1 in cc (k))
@@ -74,9 +75,9 @@ module _ (depth : ℕ) {read : Parser NodeId} {x : Grammar Token} {b : Tree Toke
 
 -- ---- with a comma between, up to what closes them
 
-pub none-first : {A B : Type 0} (o : Outcome A) (f : A → Parser B) → told o ≡ None → told (and_then o f) ≡ None
+pub none-first : {A B : Type 0} {c : Fault} (o : Outcome A) (f : A → Parser B) → told o ≡ Err c → told (and_then o f) ≡ Err c
 none-first (Ok p) f e = absurd (cc (e))
-none-first (Err e) f h = refl
+none-first (Err d) f e = let same : d ≡ _ = cc (e) in ap (λ d. Err d) same
 
 -- Behind a comma a member came.
 pub member-came : (c o : Tree Token) (t : Token) → first_token o ≡ Some t → has_member (pair c o) ≡ true
@@ -99,7 +100,7 @@ module _ (depth : ℕ) {A : Type 0} {item : Parser A} {x : Grammar Token} {b : T
   abbrev pub comma_kinds : List ℕ
   comma_kinds = Rattle.js_grammar.specs.Kinds.kinds (mark (codes ",") ∷ [])
 
-  abbrev pub rest_of : {B : Type 0} → ℕ → List Token → Goes Token B → Option B
+  abbrev pub rest_of : {B : Type 0} → ℕ → List Token → Goes Token B → Told B
   rest_of n ts k = many_of language (among (firsts language.heads (both (token comma_kinds) (optional x)))) has_member
       (guided language ahead (rule depth) (both (token comma_kinds) (optional x))) n ts k
 
@@ -110,8 +111,8 @@ module _ (depth : ℕ) {A : Type 0} {item : Parser A} {x : Grammar Token} {b : T
   abbrev pub turn_of : ℕ → List A → Bool → Parser (List A)
   turn_of m found done = if done then pure found else (item >>= λ x. g.comma_or close >>= behind_comma m (found ++ x ∷ []))
 
-  pub item-none : (ts : List Token) (ns : Nodes) (f : A → Parser (List A)) → guided language ahead (rule depth) x ts (built b ns) ≡ None
-      → told (and_then (item (ts, ns)) f) ≡ None
+  pub item-none : {c : Fault} (ts : List Token) (ns : Nodes) (f : A → Parser (List A)) → guided language ahead (rule depth) x ts (built b ns) ≡ Err c
+      → told (and_then (item (ts, ns)) f) ≡ Err c
   item-none ts ns f e = none-first (item (ts, ns)) f (sim.holds ts ns ∙ e)
 
   -- behind a comma: what closes, or a member and what follows
@@ -130,7 +131,7 @@ module _ (depth : ℕ) {A : Type 0} {item : Parser A} {x : Grammar Token} {b : T
           → told (turn_of m found w (if w then (ts, ns) else (t ∷ ts, ns)))
           ≡ (if z then guided language ahead (rule depth) x (t ∷ ts) (λ o mid. if has_member (pair c o) then
           rest_of n mid (λ d end. closed (mk.members_behind b found) ns (pair (pair c o) d) end) else closed (mk.members_behind b found) ns (pair (pair c o) tip) mid)
-          else (if w then Some (found, (ts, ns)) else None))
+          else (if w then Ok (found, (ts, ns)) else Err (wrong (t ∷ ts))))
       by true true p q = absurd (apart-tells kinds (firsts language.heads x) (token_kind t) parted p q)
       by true false p q = refl
       by false false p q = item-none (t ∷ ts) ns _ (not-begun depth x placed full (t ∷ ts) (built b ns) q)
@@ -167,13 +168,13 @@ module _ (depth : ℕ) {A : Type 0} {item : Parser A} {x : Grammar Token} {b : T
 
   -- a list up to what closes it
   pub listed-sim : Sim depth (g.listed item close) (both (listed x) (token kinds)) (λ tree. mk.listed b (first tree))
-  unfolding g.listed_from guided sees symbol after next mk.listed first_token token_kind firsts
+  unfolding g.listed_from guided sees symbol after next mk.listed first_token token_kind firsts tables
   listed-sim = record { holds = holds }
     where
       by : (t : Token) (ts : List Token) (ns : Nodes) (w z : Bool) → among kinds (token_kind t) ≡ w → among (firsts language.heads x) (token_kind t) ≡ z
           → told (turn_of (length ts) [] w (if w then (ts, ns) else (t ∷ ts, ns)))
           ≡ (if z then guided language ahead (rule depth) x (t ∷ ts) (λ o mid. rest_of (length mid) mid (λ d end. closed (λ tree. mk.listed b tree) ns (pair o d) end))
-          else (if w then Some ([], (ts, ns)) else None))
+          else (if w then Ok ([], (ts, ns)) else Err (wrong (t ∷ ts))))
       by t ts ns true true p q = absurd (apart-tells kinds (firsts language.heads x) (token_kind t) parted p q)
       by t ts ns true false p q = refl
       by t ts ns false false p q = item-none (t ∷ ts) ns _ (not-begun depth x placed full (t ∷ ts) (built b ns) q)
@@ -190,7 +191,7 @@ module _ (depth : ℕ) {A : Type 0} {item : Parser A} {x : Grammar Token} {b : T
           ap (λ v. told (turn_of (length ts) [] v (if v then (ts, ns) else (t ∷ ts, ns)))) (only.agrees (of_kind t.kind) t.broken)
           ∙ by t ts ns (among kinds (token_kind t)) (among (firsts language.heads x) (token_kind t)) refl refl
           ∙ ap (λ f. if among f (token_kind t) then guided language ahead (rule depth) x (t ∷ ts) (λ o mid. rest_of (length mid) mid (λ d end. closed (λ tree. mk.listed b tree) ns (pair o d) end))
-          else (if among kinds (token_kind t) then Some ([], (ts, ns)) else None))
+          else (if among kinds (token_kind t) then Ok ([], (ts, ns)) else Err (wrong (t ∷ ts))))
           (sym (ap (λ v. firsts language.heads x ++ (if v then firsts language.heads (many has_member (both (token comma_kinds) (optional x))) else [])) full ∙ append-nil (firsts language.heads x)))
 
 -- ---- items, up to what closes them
@@ -225,7 +226,7 @@ module _ (depth : ℕ) {A : Type 0} {item : Parser A} {x : Grammar Token} {b : T
   items_end kinds fin found ns chain mid = taking language kinds mid (λ c rest. let w = mk.all_behind b found chain ns in fin w.0 w.1 c rest)
 
   pub items-loop : {B : Type 0} {close : Symbol} {kinds : List ℕ} → Only close kinds → apart kinds (firsts language.heads x) ≡ true
-      → (loop : ℕ → List A → Parser (List A)) → ((found : List A) (ts : List Token) (ns : Nodes) → told (loop zero found (ts, ns)) ≡ None)
+      → (loop : ℕ → List A → Parser (List A)) → ((found : List A) (ts : List Token) (ns : Nodes) → told (loop zero found (ts, ns)) ≡ Err (wrong ts))
       → (f : List A → Parser B)
       → ((n : ℕ) (found : List A) (ts : List Token) (ns : Nodes) → told (and_then (loop (suc n) found (ts, ns)) f) ≡ told (more_items (loop n) f found (sees close (ts, ns)) (ts, ns)))
       → (fin : List A → Nodes → Goes Token (B × Input)) → ((found : List A) (ns : Nodes) (t : Token) (ts : List Token) → told (f found (t ∷ ts, ns)) ≡ fin found ns (leaf t) ts)
@@ -247,7 +248,7 @@ module _ (depth : ℕ) {A : Type 0} {item : Parser A} {x : Grammar Token} {b : T
           → told (more_items (loop n) f found w (t ∷ ts, ns))
           ≡ (if z then guided language ahead (rule depth) x (t ∷ ts) (λ a mid.
           many_of language (among (firsts language.heads x)) always (guided language ahead (rule depth) x) n mid (λ d end. items_end kinds fin found ns (pair a d) end))
-          else (if w then fin found ns (leaf t) ts else None))
+          else (if w then fin found ns (leaf t) ts else Err (wrong (t ∷ ts))))
       by ih true true p q = absurd (apart-tells kinds (firsts language.heads x) (token_kind t) parted p q)
       by ih true false p q = last found ns t ts
       by ih false false p q = none-first (item (t ∷ ts, ns)) _ (sim.holds (t ∷ ts) ns ∙ not-begun depth x placed full (t ∷ ts) (built b ns) q)

@@ -1,6 +1,6 @@
 -- Members of object literals.
 use Rattle.std.proofs.Common.{inl, inr, true, false, Bool, ◌≡◌, ℕ, List, [], ◌∷◌, refl, ap, sym, ◌∙◌, codes}
-use Rattle.std.specs.Prelude.{Some, None, if◌then◌else◌}
+use Rattle.std.specs.Prelude.{Some, None, if◌then◌else◌, Ok, Err}
 use Rattle.grammar.specs.Kinds.{among, apart}
 use Rattle.grammar.specs.Reading.{firsts, nullable}
 use Rattle.grammar.specs.Tests.{InPlace}
@@ -29,9 +29,9 @@ use Rattle.js_parse.specs.Nesting.{part_at}
 use Rattle.parse_laws.specs.Kinds.{numbered, token_kind}
 use Rattle.parse_laws.specs.Trees as mk
 use Rattle.parse_laws.specs.Trees.{Parts, parts_at, place_in, symbol_in, first_token, first, second, under, Build}
-use Rattle.parse_laws.proofs.Guided.{guided, Goes, done}
+use Rattle.parse_laws.proofs.Guided.{guided, Goes, done, wrong}
 use Rattle.parse_laws.proofs.Sound.{vacant, read-front, read-maybe}
-use Rattle.parse_laws.proofs.Walk.{ahead, rule, told, built, Sim, step, step-same, step-same+, step-expect, if-alike, goes-so, each-takes, language, sim-by, sim-by-at, sim-at, at_kind, kind-at, any_name-at, none-at_end, tables}
+use Rattle.parse_laws.proofs.Walk.{refusals, ahead, rule, told, built, Sim, step, step-same, step-same+, step-expect, if-alike, goes-so, each-takes, language, sim-by, sim-by-at, sim-at, at_kind, kind-at, any_name-at, none-at_end, tables}
 use Rattle.parse_laws.proofs.Symbols.{only-open_brace, only-close_brace}
 use Rattle.parse_laws.proofs.Loops.{listed-sim, none-first}
 use Rattle.parse_laws.proofs.Parted.{Parted}
@@ -57,7 +57,7 @@ module _ (depth : ℕ) (h : Parted depth) where
   key-at t ts ns x true e f = any_name-at x t ts ns _ e
 
   pub key-sim : Sim depth (g.property_key (part_at depth)) key (mk.property_key (parts_at depth))
-  unfolding g.property_key mk.property_key vacant any_name_next symbol
+  unfolding g.property_key mk.property_key vacant any_name_next symbol refusals
   key-sim = sim-by depth (key_by (part_at depth)) (mk.key_by (parts_at depth)) key refl (λ ns. refl) key-at
 
   -- ---- behind a key
@@ -76,7 +76,7 @@ module _ (depth : ℕ) (h : Parted depth) where
   under-at written at t ts ns x true e f = step h.method_part (t ∷ ts) ns _ (built (mk.member_under_by (parts_at depth) x written at) ns) (λ a rest. refl)
       ∙ kind-at depth x true (call 21) t ts (built (mk.member_under_by (parts_at depth) x written at) ns) e f
 
-  pub method-end : (written : PropertyKey) (at : ℕ) (ns : Nodes) → told (under_by written at s.End ([], ns)) ≡ None
+  pub method-end : (written : PropertyKey) (at : ℕ) (ns : Nodes) → told (under_by written at s.End ([], ns)) ≡ Err (wrong [])
   unfolding same vacant
   method-end written at ns = none-first (g.body_of (part_at depth) parts.Method ([], ns)) _ (h.method_part.holds [] ns ∙ none-at_end depth (call 21) refl _)
 
@@ -154,7 +154,7 @@ module _ (depth : ℕ) (h : Parted depth) where
   unfolding guided add
   accessor-true how make x text at sim ts ns = step key-sim ts ns _ _ (λ a m. step sim m _ _ _ (λ b rest. refl))
 
-  pub not-key : (ts rest : List Token) (tree : Tree Token) (ns : Nodes) → g.starts_key (symbol (ts, ns)) ≡ false → guided language ahead (rule depth) (optional behind_key) ts done ≡ Some (tree, rest)
+  pub not-key : (ts rest : List Token) (tree : Tree Token) (ns : Nodes) → g.starts_key (symbol (ts, ns)) ≡ false → guided language ahead (rule depth) (optional behind_key) ts done ≡ Ok (tree, rest)
       → begins_key (symbol_in tree) ≡ false
   unfolding g.starts_key symbol first_token
   not-key ts rest tree ns e w = elim (read-maybe language ahead depth each-takes (optional behind_key) ts rest tree w) [
@@ -198,11 +198,11 @@ module _ (depth : ℕ) (h : Parted depth) where
   member_at symbol i = member_by (place i) symbol i
 
   pub keyed-step : (at : ℕ) (ts : List Token) (ns : Nodes) → told (and_then (g.property_key (part_at depth) (ts, ns)) (λ written. g.member_under (part_at depth) written at))
-      ≡ guided language ahead (rule depth) key ts (λ a m. guided language ahead (rule depth) behind_key m (λ b rest. let w = mk.after (mk.property_key (parts_at depth) a ns) (λ written. mk.member_under (parts_at depth) written at b) in Some (w.0, (rest, w.1))))
+      ≡ guided language ahead (rule depth) key ts (λ a m. guided language ahead (rule depth) behind_key m (λ b rest. let w = mk.after (mk.property_key (parts_at depth) a ns) (λ written. mk.member_under (parts_at depth) written at b) in Ok (w.0, (rest, w.1))))
   keyed-step at ts ns = step key-sim ts ns _ _ (λ a m. step-same (under-sim _ at) m _ _ (λ b rest. refl))
 
   abbrev pub keyed_k : ℕ → Nodes → Goes Token (NodeId × Input)
-  keyed_k at ns a m = guided language ahead (rule depth) behind_key m (λ b rest. let w = mk.after (mk.property_key (parts_at depth) a ns) (λ written. mk.member_under (parts_at depth) written at b) in Some (w.0, (rest, w.1)))
+  keyed_k at ns a m = guided language ahead (rule depth) behind_key m (λ b rest. let w = mk.after (mk.property_key (parts_at depth) a ns) (λ written. mk.member_under (parts_at depth) written at b) in Ok (w.0, (rest, w.1)))
 
   pub getter-step : (t : Token) (ts : List Token) (ns : Nodes) → told (g.getter (part_at depth) (text_of t.kind) t.place (ts, ns))
       ≡ guided language ahead (rule depth) (either (both key getter) (optional behind_key)) ts (λ b rest. built (mk.member_by (parts_at depth) s.Get t.place) ns (pair (leaf t) b) rest)
@@ -237,7 +237,7 @@ module _ (depth : ℕ) (h : Parted depth) where
   unfolding vacant
   property-takes = refl
 
-  pub key-end : (ns : Nodes) → told (member_at s.End ([], ns)) ≡ None
+  pub key-end : (ns : Nodes) → told (member_at s.End ([], ns)) ≡ Err (wrong [])
   unfolding vacant
   key-end ns = none-first (g.property_key (part_at depth) ([], ns)) _ (key-sim.holds [] ns ∙ none-at_end depth key refl _)
 

@@ -1,6 +1,6 @@
 -- Operators between operands.
 use Rattle.std.proofs.Common.{inl, inr, true, false, Bool, ◌⊎◌, ◌≡◌, ℕ, zero, suc, List, [], ◌∷◌, length, refl, ap, sym, subst, ◌∙◌, codes}
-use Rattle.std.specs.Prelude.{Option, Some, if◌then◌else◌}
+use Rattle.std.specs.Prelude.{Option, Some, if◌then◌else◌, Ok}
 use Rattle.grammar.specs.Kinds.{among, apart}
 use Rattle.grammar.proofs.Sets.{off-apart}
 use Rattle.grammar.specs.Reading.{firsts}
@@ -16,7 +16,7 @@ use Rattle.js_parse.specs.Grammar as g
 use Rattle.js_parse.specs.Nesting.{part_at}
 use Rattle.parse_laws.specs.Trees as mk
 use Rattle.parse_laws.specs.Trees.{first_token, Parts, parts_at, place_in, symbol_in, first, second, under, Build}
-use Rattle.parse_laws.proofs.Guided.{guided, many_of, Goes, done, called_some, some_same, guided-continues}
+use Rattle.parse_laws.proofs.Guided.{guided, many_of, Goes, done, called_ok, ok_same, guided-continues, Told}
 use Rattle.parse_laws.proofs.Sound.{vacant}
 use Rattle.parse_laws.proofs.Walk.{language, ahead, rule, told, built, Sim, step, step+, step-same, step-same+, sees-starts, tip-took, at-first, assoc, tables}
 use Rattle.parse_laws.proofs.Loops.{Level, chain-sim}
@@ -138,14 +138,14 @@ module _ (depth : ℕ) (h : Parted depth) (allow_in : Bool) where
   operand-8 = operand-sim 8 (form allow_in 38) takes-8 operated-8
 
   -- a rule with a name has a node of that name
-  pub named-node : (name : ℕ) (x : Rule) (ts rest : List Token) (a : Tree Token) → guided language ahead (rule depth) (named name x) ts done ≡ Some (a, rest)
+  pub named-node : (name : ℕ) (x : Rule) (ts rest : List Token) (a : Tree Token) → guided language ahead (rule depth) (named name x) ts done ≡ Ok (a, rest)
       → (c : Tree Token) × (a ≡ node name c)
   unfolding guided
   named-node name x ts rest a e =
-      let k = called_some (guided language ahead (rule depth) x ts done) _ (a, rest) (sym (guided-continues language ahead (rule depth) (Tree Token × List Token) x ts _) ∙ e) in
-      ((k.0).0, sym (ap (λ q. q.0) (some_same _ _ k.2)))
+      let k = called_ok (guided language ahead (rule depth) x ts done) _ (a, rest) (sym (guided-continues language ahead (rule depth) (Tree Token × List Token) x ts _) ∙ e) in
+      ((k.0).0, sym (ap (λ q. q.0) (ok_same _ _ k.2)))
 
-  pub bits-named : (ts rest : List Token) (a : Tree Token) → guided language ahead (rule depth) (bit_or_rule allow_in) ts done ≡ Some (a, rest) → (c : Tree Token) × (a ≡ node (form allow_in 38) c)
+  pub bits-named : (ts rest : List Token) (a : Tree Token) → guided language ahead (rule depth) (bit_or_rule allow_in) ts done ≡ Ok (a, rest) → (c : Tree Token) × (a ≡ node (form allow_in 38) c)
   unfolding bit_or_rule
   bits-named ts rest a e = named-node (form allow_in 38) _ ts rest a e
 
@@ -194,12 +194,12 @@ module _ (depth : ℕ) (h : Parted depth) (allow_in : Bool) where
   unreached false a c (pair b d) = inl refl
   unreached false a c (node n b) = inl refl
 
-  abbrev pub short_end : ℕ → Nodes → Tree Token → List Token → Option (NodeId × Input)
+  abbrev pub short_end : ℕ → Nodes → Tree Token → List Token → Told (NodeId × Input)
   short_end at ns o m = if reaches short_nodes o
       then guided language ahead (rule depth) (any coalesce_x) m (λ d rest. built (mk.short_at (parts_at depth) at) ns (node (form allow_in 41) (pair o d)) rest)
       else built (mk.short_at (parts_at depth) at) ns (node (form allow_in 41) (pair o tip)) m
 
-  abbrev pub behind_bits : ℕ → Nodes → Tree Token → List Token → Option (NodeId × Input)
+  abbrev pub behind_bits : ℕ → Nodes → Tree Token → List Token → Told (NodeId × Input)
   behind_bits at ns a mid = guided language ahead (rule depth) (any and_x) mid (λ c m. guided language ahead (rule depth) (any or_x) m (λ d end. short_end at ns (or_node a c d) end))
 
   abbrev pub short_choice : ℕ → NodeId → Bool → Parser NodeId
@@ -247,8 +247,8 @@ module _ (depth : ℕ) (h : Parted depth) (allow_in : Bool) where
   unfolding mk.short_at
   short-built at a c d e ns = refl
 
-  abbrev pub ended : {A : Type 0} → A × Nodes → List Token → Option (A × Input)
-  ended w rest = Some (w.0, (rest, w.1))
+  abbrev pub ended : {A : Type 0} → A × Nodes → List Token → Told (A × Input)
+  ended w rest = Ok (w.0, (rest, w.1))
 
   pub coalesced : (at : ℕ) (ns : Nodes) (c : Tree Token) (mid : List Token) → starts language (among (kinds (mark (codes "??") ∷ []))) mid ≡ true
       → told (let w = mk.operand_at (parts_at depth) 8 at (node (form allow_in 38) c) ns in short_choice at w.0 true (mid, w.1)) ≡ behind_bits at ns (node (form allow_in 38) c) mid
@@ -268,14 +268,14 @@ module _ (depth : ℕ) (h : Parted depth) (allow_in : Bool) where
   short-tip at a c d ns end = ap (λ w. ended w end) (short-built at a c d tip ns)
 
   pub short-last : (at : ℕ) (ns : Nodes) (a c d : Tree Token) (mid m end : List Token) → starts language (among (kinds (mark (codes "??") ∷ []))) mid ≡ false
-      → guided language ahead (rule depth) (any and_x) mid done ≡ Some (c, m) → guided language ahead (rule depth) (any or_x) m done ≡ Some (d, end)
+      → guided language ahead (rule depth) (any and_x) mid done ≡ Ok (c, m) → guided language ahead (rule depth) (any or_x) m done ≡ Ok (d, end)
       → ended (mk.operand_at (parts_at depth) 10 at (or_node a c d) ns) end ≡ short_end at ns (or_node a c d) end
   unfolding guided
   short-last at ns a c d mid m end e p q = elim (unreached allow_in a c d) [
     | inl k ↦ rw k (sym (short-tip at a c d ns end))
     | inr k ↦
-        let one : guided language ahead (rule depth) (any and_x) mid done ≡ Some (tip, m) = p ∙ ap (λ (c : Tree Token). Some (c, m)) k.0 in
-        let two : guided language ahead (rule depth) (any or_x) m done ≡ Some (tip, end) = q ∙ ap (λ (d : Tree Token). Some (d, end)) k.1 in
+        let one : guided language ahead (rule depth) (any and_x) mid done ≡ Ok (tip, m) = p ∙ ap (λ (c : Tree Token). Ok (c, m)) k.0 in
+        let two : guided language ahead (rule depth) (any or_x) m done ≡ Ok (tip, end) = q ∙ ap (λ (d : Tree Token). Ok (d, end)) k.1 in
         let same : mid ≡ end = tip-took depth always and_x mid m one ∙ tip-took depth always or_x m end two in
         let off : starts language (among (kinds (mark (codes "??") ∷ []))) end ≡ false = ap (λ ts. starts language (among (kinds (mark (codes "??") ∷ []))) ts) (sym same) ∙ e in
         sym (short-tip at a c d ns end) ∙ if-both (reaches short_nodes (or_node a c d)) _ _ (none-comes coalesce_x (length end) end _ (no-coalesce end off))
@@ -312,5 +312,5 @@ module _ (depth : ℕ) (h : Parted depth) (allow_in : Bool) where
         (sym k.1) (short-chosen at ns k.0 mid));
   }
     where
-      bits-node : (ts rest : List Token) (a : Tree Token) → guided language ahead (rule depth) (bit_or_rule allow_in) ts done ≡ Some (a, rest) → (c : Tree Token) × (a ≡ node (form allow_in 38) c)
+      bits-node : (ts rest : List Token) (a : Tree Token) → guided language ahead (rule depth) (bit_or_rule allow_in) ts done ≡ Ok (a, rest) → (c : Tree Token) × (a ≡ node (form allow_in 38) c)
       bits-node ts rest a e = bits-named ts rest a e

@@ -1,6 +1,6 @@
 -- Lists of parameters.
 use Rattle.std.proofs.Common.{true, false, Bool, ◌≡◌, ℕ, zero, suc, ◌≤◌, List, [], ◌∷◌, ◌++◌, length, refl, ap, sym, subst, ◌∙◌, codes, arith}
-use Rattle.std.specs.Prelude.{Option, Some, None, if◌then◌else◌}
+use Rattle.std.specs.Prelude.{Option, Some, None, if◌then◌else◌, Ok, Err}
 use Rattle.grammar.specs.Kinds.{among, apart}
 use Rattle.grammar.specs.Reading.{firsts, nullable}
 use Rattle.grammar.specs.Tests.{InPlace}
@@ -21,9 +21,9 @@ use Rattle.js_parse.specs.Nesting.{part_at}
 use Rattle.parse_laws.specs.Kinds.{token_kind}
 use Rattle.parse_laws.specs.Trees as mk
 use Rattle.parse_laws.specs.Trees.{Parts, parts_at, place_in, symbol_in, first_token, first, second, under, Build}
-use Rattle.parse_laws.proofs.Guided.{guided, many_of, taking, Goes, done}
+use Rattle.parse_laws.proofs.Guided.{guided, many_of, taking, Goes, done, Told, wrong}
 use Rattle.parse_laws.proofs.Sound.{vacant, read-front, guided-finds, rule-finds}
-use Rattle.parse_laws.proofs.Walk.{language, ahead, rule, told, built, Sim, step+, step-same, step-expect, eat-or, not-begun, each-takes, none-at_end, assoc, tables}
+use Rattle.parse_laws.proofs.Walk.{refusals, language, ahead, rule, told, built, Sim, step+, step-same, step-expect, eat-or, not-begun, each-takes, none-at_end, assoc, tables}
 use Rattle.parse_laws.proofs.Symbols.{only-comma, only-ellipsis, only-open_paren, only-close_paren}
 use Rattle.parse_laws.proofs.Loops.{none-first}
 use Rattle.parse_laws.proofs.Parted.{Parted}
@@ -45,7 +45,7 @@ module _ (depth : ℕ) (h : Parted depth) where
   abbrev pub closed : (Tree Token → Build Parameters) → Nodes → Goes Token (Parameters × Input)
   closed c ns tree mid = taking language shut mid (λ end rest. built c ns tree rest)
 
-  abbrev pub more_of : {C : Type 0} → ℕ → List Token → Goes Token C → Option C
+  abbrev pub more_of : {C : Type 0} → ℕ → List Token → Goes Token C → Told C
   more_of n ts k = many_of language (among (firsts language.heads comma_x)) has_parameter (guided language ahead (rule depth) comma_x) n ts k
 
   abbrev pub plain : List BindElement → Parameters
@@ -65,7 +65,7 @@ module _ (depth : ℕ) (h : Parted depth) where
   abbrev pub turn_of : ℕ → List BindElement → Bool → Parser Parameters
   turn_of m found done_ = if done_ then pure (plain found) else (eat s.Ellipsis >>= spread_of m found)
 
-  pub pair-shape : (ts rest : List Token) (o : Tree Token) → guided language ahead (rule depth) parameter ts done ≡ Some (o, rest) → (a b : Tree Token) × (o ≡ pair a b)
+  pub pair-shape : (ts rest : List Token) (o : Tree Token) → guided language ahead (rule depth) parameter ts done ≡ Ok (o, rest) → (a b : Tree Token) × (o ≡ pair a b)
   unfolding Spells
   pair-shape ts rest o e = let k = guided-finds language ahead (rule depth) (Derives language depth) (rule-finds language ahead depth) parameter ts (o, rest) e in (k.1, k.2, k.5)
 
@@ -77,10 +77,10 @@ module _ (depth : ℕ) (h : Parted depth) where
   unfolding firsts nullable
   dots-first t e = among-left (dots ++ []) (firsts language.heads parameter) (token_kind t) (ap (λ f. among f (token_kind t)) (append-nil dots) ∙ e)
 
-  abbrev pub rest_shut : List BindElement → Nodes → Token → Token → List Token → Option (Parameters × Input)
+  abbrev pub rest_shut : List BindElement → Nodes → Token → Token → List Token → Told (Parameters × Input)
   rest_shut found ns t u mid = closed (mk.rest_of (parts_at depth) found) ns (node 58 (pair (leaf t) (leaf u))) mid
 
-  pub leaf-shape : (ts rest : List Token) (a : Tree Token) → guided language ahead (rule depth) identifier ts done ≡ Some (a, rest) → (u : Token) × (a ≡ leaf u)
+  pub leaf-shape : (ts rest : List Token) (a : Tree Token) → guided language ahead (rule depth) identifier ts done ≡ Ok (a, rest) → (u : Token) × (a ≡ leaf u)
   unfolding Spells
   leaf-shape ts rest a e = let k = guided-finds language ahead (rule depth) (Derives language depth) (rule-finds language ahead depth) identifier ts (a, rest) e in (k.0, k.3)
 
@@ -101,16 +101,16 @@ module _ (depth : ℕ) (h : Parted depth) where
   -- a parameter that comes
   pub came : (m : ℕ) (found : List BindElement) (t : Token) (ts : List Token) (ns : Nodes) (k : Goes Token (Parameters × Input))
       → ((u : Token) (mid : List Token) → rest_shut found ns t u mid ≡ k (node 58 (pair (leaf t) (leaf u))) mid)
-      → ((o : Tree Token) (mid : List Token) → guided language ahead (rule depth) parameter (t ∷ ts) done ≡ Some (o, mid)
+      → ((o : Tree Token) (mid : List Token) → guided language ahead (rule depth) parameter (t ∷ ts) done ≡ Ok (o, mid)
       → (let w = mk.bind_element (parts_at depth) o ns in told (and_then (g.comma_or s.CloseParen (mid, w.1)) (behind_comma m (found ++ w.0 ∷ [])))) ≡ k o mid)
       → told (and_then (eat s.Ellipsis (t ∷ ts, ns)) (spread_of m found)) ≡ guided language ahead (rule depth) one_x (t ∷ ts) k
   unfolding sees symbol after next token_kind guided firsts nullable
   came m found t ts ns k o p = ap (λ v. told (spread_of m found v (if v then (ts, ns) else (t ∷ ts, ns)))) (only-ellipsis.agrees (of_kind t.kind) t.broken)
-      ∙ by (among dots (token_kind t)) ∙ ap (λ f. if among f (token_kind t) then (if among dots (token_kind t) then taking language (kinds names) ts (λ u mid. k (node 58 (pair (leaf t) u)) mid) else None)
+      ∙ by (among dots (token_kind t)) ∙ ap (λ f. if among f (token_kind t) then (if among dots (token_kind t) then taking language (kinds names) ts (λ u mid. k (node 58 (pair (leaf t) u)) mid) else Err (wrong (t ∷ ts)))
       else guided language ahead (rule depth) parameter (t ∷ ts) k) (sym (append-nil dots))
     where
       by : (v : Bool) → told (spread_of m found v (if v then (ts, ns) else (t ∷ ts, ns)))
-          ≡ (if v then (if v then taking language (kinds names) ts (λ u mid. k (node 58 (pair (leaf t) u)) mid) else None) else guided language ahead (rule depth) parameter (t ∷ ts) k)
+          ≡ (if v then (if v then taking language (kinds names) ts (λ u mid. k (node 58 (pair (leaf t) u)) mid) else Err (wrong (t ∷ ts))) else guided language ahead (rule depth) parameter (t ∷ ts) k)
       by true = rest-closed found t ts ns k o
       by false = step+ (element-sim depth h) (t ∷ ts) ns _ _ p
 
@@ -131,7 +131,7 @@ module _ (depth : ℕ) (h : Parted depth) where
   next-rest n c found ns t u mid = refl
 
   pub next-parameter : (n m : ℕ) → Reads-parameters n m → (c : Tree Token) (found : List BindElement) (ns : Nodes) (t : Token) (ts : List Token) → length ts ≤ n → length ts ≤ m
-      → (o : Tree Token) (mid : List Token) → guided language ahead (rule depth) parameter (t ∷ ts) done ≡ Some (o, mid)
+      → (o : Tree Token) (mid : List Token) → guided language ahead (rule depth) parameter (t ∷ ts) done ≡ Ok (o, mid)
       → (let w = mk.bind_element (parts_at depth) o ns in told (and_then (g.comma_or s.CloseParen (mid, w.1)) (behind_comma m (found ++ w.0 ∷ [])))) ≡ next_k n c found ns o mid
   unfolding mk.parameters_behind first_token
   next-parameter n m ih c found ns t ts few less o mid e =
@@ -155,7 +155,7 @@ module _ (depth : ℕ) (h : Parted depth) where
     where
       by : (w z : Bool) → among shut (token_kind t) ≡ w → among (firsts language.heads one_x) (token_kind t) ≡ z
           → told (turn_of m found w (if w then (ts, ns) else (t ∷ ts, ns)))
-          ≡ (if z then guided language ahead (rule depth) one_x (t ∷ ts) (next_k n c found ns) else (if w then Some (plain found, (ts, ns)) else None))
+          ≡ (if z then guided language ahead (rule depth) one_x (t ∷ ts) (next_k n c found ns) else (if w then Ok (plain found, (ts, ns)) else Err (wrong (t ∷ ts))))
       by true true p q = absurd (apart-tells shut (firsts language.heads one_x) (token_kind t) parameters-parted p q)
       by true false p q = refl
       by false true p q = came m found t ts ns (next_k n c found ns) (next-rest n c found ns t) (next-parameter n m ih c found ns t ts (omega (arith, few)) (omega (arith, less)))
@@ -195,7 +195,7 @@ module _ (depth : ℕ) (h : Parted depth) where
   list-rest ns t u mid = refl
 
   pub list-parameter : (m : ℕ) (ns : Nodes) (t : Token) (ts : List Token) → length ts ≤ m
-      → (o : Tree Token) (mid : List Token) → guided language ahead (rule depth) parameter (t ∷ ts) done ≡ Some (o, mid)
+      → (o : Tree Token) (mid : List Token) → guided language ahead (rule depth) parameter (t ∷ ts) done ≡ Ok (o, mid)
       → (let w = mk.bind_element (parts_at depth) o ns in told (and_then (g.comma_or s.CloseParen (mid, w.1)) (behind_comma m (w.0 ∷ [])))) ≡ list_k ns o mid
   unfolding mk.parameter_list first_token
   list-parameter m ns t ts less o mid e =
@@ -208,17 +208,17 @@ module _ (depth : ℕ) (h : Parted depth) where
       rw front (parameters-loop (length mid) m mid _ _ (omega arith) (omega (arith, less, size, short))))
 
   pub list-holds : (ts : List Token) (ns : Nodes) → told (g.parameter_list (part_at depth) (ts, ns)) ≡ guided language ahead (rule depth) (both parameter_list (token shut)) ts (built (λ tree. mk.parameter_list (parts_at depth) (first tree)) ns)
-  unfolding g.parameter_list g.parameters_from guided sees symbol after next mk.parameter_list first_token token_kind firsts
+  unfolding g.parameter_list g.parameters_from guided sees symbol after next mk.parameter_list first_token token_kind firsts refusals
   list-holds [] ns = refl
   list-holds (t ∷ ts) ns =
       ap (λ v. told (turn_of (length ts) [] v (if v then (ts, ns) else (t ∷ ts, ns)))) (only-close_paren.agrees (of_kind t.kind) t.broken)
       ∙ by (among shut (token_kind t)) (among (firsts language.heads one_x) (token_kind t)) refl refl
-      ∙ ap (λ f. if among f (token_kind t) then guided language ahead (rule depth) one_x (t ∷ ts) (list_k ns) else (if among shut (token_kind t) then Some (plain [], (ts, ns)) else None))
+      ∙ ap (λ f. if among f (token_kind t) then guided language ahead (rule depth) one_x (t ∷ ts) (list_k ns) else (if among shut (token_kind t) then Ok (plain [], (ts, ns)) else Err (wrong (t ∷ ts))))
       (sym (ap (λ v. firsts language.heads one_x ++ (if v then firsts language.heads (many has_parameter comma_x) ++ [] else [])) one-full.0 ∙ append-nil (firsts language.heads one_x)))
     where
       by : (w z : Bool) → among shut (token_kind t) ≡ w → among (firsts language.heads one_x) (token_kind t) ≡ z
           → told (turn_of (length ts) [] w (if w then (ts, ns) else (t ∷ ts, ns)))
-          ≡ (if z then guided language ahead (rule depth) one_x (t ∷ ts) (list_k ns) else (if w then Some (plain [], (ts, ns)) else None))
+          ≡ (if z then guided language ahead (rule depth) one_x (t ∷ ts) (list_k ns) else (if w then Ok (plain [], (ts, ns)) else Err (wrong (t ∷ ts))))
       by true true p q = absurd (apart-tells shut (firsts language.heads one_x) (token_kind t) parameters-parted p q)
       by true false p q = refl
       by false true p q = came (length ts) [] t ts ns (list_k ns) (list-rest ns t) (list-parameter (length ts) ns t ts (omega arith))

@@ -8,6 +8,7 @@ use Rattle.js_token.specs.declared.token.Token.{Token}
 use Rattle.js_tree.specs.Nodes.{Nodes}
 use Rattle.js_parse.specs.declared.symbol.Symbol.TheVariants as s
 use Rattle.js_parse.specs.Symbols.{of_kind}
+use Rattle.js_parse.specs.Operators.{is_prefix}
 use Rattle.js_parse.specs.Grammar as g
 use Rattle.js_parse.specs.Nesting.{part_at}
 use Rattle.parse_laws.specs.Trees.{parts_at}
@@ -33,7 +34,8 @@ pub record Parted (depth : ℕ) : Type 0 where
   pub arrow_part : (allow_in : Bool) → Sim depth (g.node_of (part_at depth) (parts.ArrowBody allow_in)) (arrow_tail allow_in) ((parts_at depth).node_of (parts.ArrowBody true))
   pub block_part : Sim depth (g.node_of (part_at depth) parts.Block) (call 1) ((parts_at depth).node_of parts.Block)
   pub body_part : Sim depth (g.node_of (part_at depth) parts.Body) (call 4) ((parts_at depth).node_of parts.Body)
-  pub unary_part : Sim depth (g.node_of (part_at depth) parts.Unary) (call 12) ((parts_at depth).node_of parts.Unary)
+  pub unary_part : (t : Token) (ts : List Token) (ns : Nodes) → is_prefix (of_kind t.kind) ≡ true
+      → told (g.node_of (part_at depth) parts.Unary (t ∷ ts, ns)) ≡ guided language ahead (rule depth) (call 12) (t ∷ ts) (built ((parts_at depth).node_of parts.Unary) ns)
   pub new_part : Sim depth (g.node_of (part_at depth) parts.New) new_form ((parts_at depth).node_of parts.New)
   pub pattern_part : Sim depth (g.node_of (part_at depth) parts.Pattern) (call 20) ((parts_at depth).node_of parts.Pattern)
   pub catch_part : Sim depth (g.node_of (part_at depth) parts.CatchBind) (call 25) ((parts_at depth).node_of parts.CatchBind)

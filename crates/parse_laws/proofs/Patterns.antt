@@ -1,6 +1,6 @@
 -- Patterns, parameters and functions.
 use Rattle.std.proofs.Common.{true, false, Bool, ◌≡◌, ℕ, List, [], ◌∷◌, refl, ap, ◌∙◌, codes}
-use Rattle.std.specs.Prelude.{Option, Some, None, if◌then◌else◌}
+use Rattle.std.specs.Prelude.{Option, Some, None, if◌then◌else◌, Err}
 use Rattle.grammar.specs.Kinds.{apart}
 use Rattle.grammar.specs.Reading.{firsts, nullable}
 use Rattle.grammar.specs.Tests.{InPlace}
@@ -24,9 +24,9 @@ use Rattle.js_parse.specs.Nesting.{part_at}
 use Rattle.parse_laws.specs.Kinds.{numbered, token_kind}
 use Rattle.parse_laws.specs.Trees as mk
 use Rattle.parse_laws.specs.Trees.{Parts, parts_at, place_in, symbol_in, first_token, first, second, under, Build}
-use Rattle.parse_laws.proofs.Guided.{guided, Goes}
+use Rattle.parse_laws.proofs.Guided.{guided, Goes, wrong}
 use Rattle.parse_laws.proofs.Sound.{vacant}
-use Rattle.parse_laws.proofs.Walk.{language, ahead, rule, told, built, Sim, step, step-same, step-expect, eat-step, eat-need, sim-by, sim-at, at_kind, if-alike, any_name-at, step-name, name-agrees, tables}
+use Rattle.parse_laws.proofs.Walk.{refusals, language, ahead, rule, told, built, Sim, step, step-same, step-expect, eat-step, eat-need, sim-by, sim-at, at_kind, if-alike, any_name-at, step-name, name-agrees, tables}
 use Rattle.parse_laws.proofs.Symbols.{only-open_paren, only-close_paren, only-close_brace, only-close_bracket, only-colon, only-function}
 use Rattle.parse_laws.proofs.Loops.{listed-sim}
 use Rattle.parse_laws.proofs.Parted.{Parted}
@@ -41,7 +41,7 @@ module _ (depth : ℕ) (h : Parted depth) where
   under_x named_ = if named_ then optional (both (token (kinds (mark (codes ":") ∷ []))) bind) else both (token (kinds (mark (codes ":") ∷ []))) bind
 
   pub bind_under-sim : (named_ : Bool) (text : List ℕ) (at : ℕ) → Sim depth (g.bind_under (part_at depth) named_ text at) (under_x named_) (mk.bind_under (parts_at depth) text at)
-  unfolding g.bind_under mk.bind_under guided first_token add
+  unfolding g.bind_under mk.bind_under guided first_token add refusals
   bind_under-sim true text at = record { holds = λ ts ns. eat-step depth only-colon ts ns (target true text at) bind empty (built (mk.bind_under (parts_at depth) text at) ns) (λ t rest. step-same (bind-sim depth h) rest ns _ (λ a end. refl)) refl }
   bind_under-sim false text at = record { holds = λ ts ns. eat-need depth only-colon ts ns (target false text at) bind (built (mk.bind_under (parts_at depth) text at) ns) (λ t rest. step-same (bind-sim depth h) rest ns (λ b end. built (mk.bind_under (parts_at depth) text at) ns (pair (leaf t) b) end) (λ a end. refl)) refl }
 
@@ -64,15 +64,15 @@ module _ (depth : ℕ) (h : Parted depth) where
   unfolding at_kind tables place text_next next guided
   property-at t ts ns s.Text false e f = property-behind false t ts ns
   property-at t ts ns s.Text true e f = property-behind false t ts ns
-  property-at t ts ns x false e f = any_name-at x t ts ns _ e ∙ if-alike (is_any_name x) _ None _ None (property-behind (is_name x) t ts ns) refl
-  property-at t ts ns x true e f = any_name-at x t ts ns _ e ∙ if-alike (is_any_name x) _ None _ None (property-behind (is_name x) t ts ns) refl
+  property-at t ts ns x false e f = any_name-at x t ts ns _ e ∙ if-alike (is_any_name x) _ (Err (wrong (t ∷ ts))) _ (Err (wrong (t ∷ ts))) (property-behind (is_name x) t ts ns) refl
+  property-at t ts ns x true e f = any_name-at x t ts ns _ e ∙ if-alike (is_any_name x) _ (Err (wrong (t ∷ ts))) _ (Err (wrong (t ∷ ts))) (property-behind (is_name x) t ts ns) refl
 
   pub property-takes : vacant pattern_member ≡ false
   unfolding vacant
   property-takes = refl
 
   pub property-sim : Sim depth (g.bind_property (part_at depth)) pattern_member (mk.bind_property (parts_at depth))
-  unfolding g.bind_property place symbol any_name_next
+  unfolding g.bind_property place symbol any_name_next refusals
   property-sim = sim-by depth property_by (λ symbol. mk.bind_property (parts_at depth)) pattern_member property-takes (λ ns. refl) property-at
 
   -- ---- patterns
@@ -123,7 +123,7 @@ module _ (depth : ℕ) (h : Parted depth) where
   pattern-at t ts ns _ true e f = refl
 
   pub pattern-sim : Sim depth (g.pattern (part_at depth)) pattern_rule (mk.pattern (parts_at depth))
-  unfolding g.pattern mk.pattern pattern_rule vacant
+  unfolding g.pattern mk.pattern pattern_rule vacant refusals
   pattern-sim = sim-by depth pattern_by (mk.pattern_by (parts_at depth)) pattern_rule refl (λ ns. refl) pattern-at
 
   -- ---- one parameter, and none
@@ -159,9 +159,9 @@ module _ (depth : ℕ) (h : Parted depth) where
       → told (and_then (st.function_name (ts, ns)) f) ≡ guided language ahead (rule depth) (optional identifier) ts k
   unfolding st.function_name symbol text_next next guided token_kind firsts
   name-step [] ns f k h o = o
-  name-step {A} (t ∷ ts) ns f k h o = by (is_name (of_kind t.kind)) ∙ ap (λ b. if b then (if b then k (leaf t) ts else None) else k tip (t ∷ ts)) (name-agrees (of_kind t.kind) t.broken)
+  name-step {A} (t ∷ ts) ns f k h o = by (is_name (of_kind t.kind)) ∙ ap (λ b. if b then (if b then k (leaf t) ts else Err (wrong (t ∷ ts))) else k tip (t ∷ ts)) (name-agrees (of_kind t.kind) t.broken)
     where
-      by : (b : Bool) → told (and_then (st.name_if b (t ∷ ts, ns)) f) ≡ (if b then (if b then k (leaf t) ts else None) else k tip (t ∷ ts))
+      by : (b : Bool) → told (and_then (st.name_if b (t ∷ ts, ns)) f) ≡ (if b then (if b then k (leaf t) ts else Err (wrong (t ∷ ts))) else k tip (t ∷ ts))
       by true = h t ts
       by false = o
 

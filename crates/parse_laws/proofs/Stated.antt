@@ -1,6 +1,6 @@
 -- Statements.
 use Rattle.std.proofs.Common.{true, false, Bool, ◌≡◌, ℕ, suc, List, [], ◌∷◌, ◌++◌, length, refl, ap, sym, ◌∙◌, codes, arith}
-use Rattle.std.specs.Prelude.{Option, Some, None, if◌then◌else◌, ◌||◌, ◌%◌, ◌==◌, is_none}
+use Rattle.std.specs.Prelude.{Option, Some, None, if◌then◌else◌, ◌||◌, ◌%◌, ◌==◌, is_none, Ok, Err}
 use Rattle.grammar.specs.Kinds.{among, apart, kept}
 use Rattle.grammar.proofs.Sets.{kept-among, among-kept, apart-tells}
 use Rattle.grammar.specs.Reading.{firsts, nullable}
@@ -24,9 +24,9 @@ use Rattle.js_parse.specs.Nesting.{part_at}
 use Rattle.parse_laws.specs.Kinds.{numbered, token_kind}
 use Rattle.parse_laws.specs.Trees as mk
 use Rattle.parse_laws.specs.Trees.{Parts, parts_at, place_in, symbol_in, first_token, first, second, under, Build}
-use Rattle.parse_laws.proofs.Guided.{guided, Goes}
+use Rattle.parse_laws.proofs.Guided.{guided, Goes, wrong}
 use Rattle.parse_laws.proofs.Sound.{vacant, read-front}
-use Rattle.parse_laws.proofs.Walk.{language, ahead, rule, told, built, Sim, step, step+, step-expect, eat-step, eat-step+, eat-need+, eat-prefer, even-kind, sim-by-at, sim-at, at_kind, sees-starts, not-begun, on-true, on-false, none-at_end, assoc, each-takes, tables}
+use Rattle.parse_laws.proofs.Walk.{refusals, language, ahead, rule, told, built, Sim, step, step+, step-expect, eat-step, eat-step+, eat-need+, eat-prefer, even-kind, sim-by-at, sim-at, at_kind, sees-starts, not-begun, on-true, on-false, none-at_end, assoc, each-takes, tables}
 use Rattle.parse_laws.proofs.Symbols
 use Rattle.parse_laws.proofs.Loops.{items-loop, none-first}
 use Rattle.parse_laws.proofs.Parted.{Parted}
@@ -89,13 +89,13 @@ module _ (depth : ℕ) (h : Parted depth) where
 
   pub throw-step : (t : Token) (ts : List Token) (ns : Nodes) → told (st.throw_statement (part_at depth) (t ∷ ts, ns))
       ≡ guided language ahead (rule depth) (both (unbroken (expr true)) (token (kinds (mark (codes ";") ∷ [])))) ts (λ b rest. built (mk.throw_statement (parts_at depth)) ns (pair (leaf t) b) rest)
-  unfolding st.throw_statement mk.throw_statement place next add guided first_token is_broken token_kind
+  unfolding st.throw_statement mk.throw_statement place next add guided first_token is_broken token_kind refusals
   throw-step t [] ns = none-first (g.expression (part_at depth) true ([], ns)) _ ((expression-sim depth h true).holds [] ns ∙ none-at_end depth (expr_rule true) (expr-takes depth h true) _)
-  throw-step t (u ∷ ts) ns = by u.broken ∙ ap (λ b. if b then guided language ahead (rule depth) (both (expr true) (token (kinds (mark (codes ";") ∷ [])))) (u ∷ ts) (λ b rest. built (mk.throw_statement (parts_at depth)) ns (pair (leaf t) b) rest) else None)
+  throw-step t (u ∷ ts) ns = by u.broken ∙ ap (λ b. if b then guided language ahead (rule depth) (both (expr true) (token (kinds (mark (codes ";") ∷ [])))) (u ∷ ts) (λ b rest. built (mk.throw_statement (parts_at depth)) ns (pair (leaf t) b) rest) else Err (wrong (u ∷ ts)))
       (sym (even-kind (of_kind u.kind) u.broken))
     where
       by : (b : Bool) → told ((if b then refuse else (g.expression (part_at depth) true >>= λ value. expect s.Semicolon >> add (made.Throw value) (place (t ∷ u ∷ ts, ns)))) (u ∷ ts, ns))
-          ≡ (if (if b then false else true) then guided language ahead (rule depth) (both (expr true) (token (kinds (mark (codes ";") ∷ [])))) (u ∷ ts) (λ b rest. built (mk.throw_statement (parts_at depth)) ns (pair (leaf t) b) rest) else None)
+          ≡ (if (if b then false else true) then guided language ahead (rule depth) (both (expr true) (token (kinds (mark (codes ";") ∷ [])))) (u ∷ ts) (λ b rest. built (mk.throw_statement (parts_at depth)) ns (pair (leaf t) b) rest) else Err (wrong (u ∷ ts)))
       by true = refl
       by false = step (expression-sim depth h true) (u ∷ ts) ns _ _ (λ a m. step-expect Symbols.only-semicolon m _ _ _ (λ v rest. refl))
 
@@ -123,10 +123,10 @@ module _ (depth : ℕ) (h : Parted depth) where
   value-returned at ts ns = assoc (g.expression (part_at depth) true (ts, ns)) _ _ ∙ step+ (expression-sim depth h true) ts ns _ _ (λ a m e.
       step-expect Symbols.only-semicolon m _ _ _ (λ u rest.
       let f = read-front language ahead depth each-takes (expr_rule true) (expr-takes depth h true) ts m a e in
-      ap (λ o. let w = mk.after ((if is_none o then mk.pure None else (λ ns. mk.after (mk.expression (parts_at depth) a ns) (λ x. mk.pure (Some x)))) ns) (λ value. mk.added (made.Return value) at) in Some (w.0, (rest, w.1))) (sym f.3)))
+      ap (λ o. let w = mk.after ((if is_none o then mk.pure None else (λ ns. mk.after (mk.expression (parts_at depth) a ns) (λ x. mk.pure (Some x)))) ns) (λ value. mk.added (made.Return value) at) in Ok (w.0, (rest, w.1))) (sym f.3)))
 
   pub expression-none : (u : Token) (ts : List Token) (ns : Nodes) → among (firsts language.heads (expr true)) (token_kind u) ≡ false
-      → guided language ahead (rule depth) (expr_rule true) (u ∷ ts) (built (mk.expression (parts_at depth)) ns) ≡ None
+      → guided language ahead (rule depth) (expr_rule true) (u ∷ ts) (built (mk.expression (parts_at depth)) ns) ≡ Err (wrong (u ∷ ts))
   unfolding guided InPlace rules entry nullable
   expression-none u ts ns i = not-begun depth (expr true) refl refl (u ∷ ts) (built (mk.expression (parts_at depth)) ns) i
 
@@ -141,7 +141,7 @@ module _ (depth : ℕ) (h : Parted depth) where
       by : (b w z x : Bool) → u.broken ≡ b → among semi (token_kind u) ≡ w → among (kept (λ kind. kind % 2 == 0) (firsts language.heads (expr true))) (token_kind u) ≡ z
           → among (firsts language.heads (expr true)) (token_kind u) ≡ x
           → told (returned at (b || w) (u ∷ ts, ns))
-          ≡ (if z then (if token_kind u % 2 == 0 then guided language ahead (rule depth) (both (expr true) (token semi)) (u ∷ ts) (return_k at ns) else None)
+          ≡ (if z then (if token_kind u % 2 == 0 then guided language ahead (rule depth) (both (expr true) (token semi)) (u ∷ ts) (return_k at ns) else Err (wrong (u ∷ ts)))
           else guided language ahead (rule depth) (token semi) (u ∷ ts) (λ c rest. return_k at ns (pair tip c) rest))
       by true w true x e f g' i = absurd (let k = kept-among (λ kind. kind % 2 == 0) (firsts language.heads (expr true)) (token_kind u) g' in let odd : (token_kind u % 2 == 0) ≡ false = even-kind (of_kind u.kind) u.broken ∙ ap (λ b. if b then false else true) e in let v = k.1 in cc (v, odd))
       by true w false x e f g' i = nothing-returned at (u ∷ ts) ns
@@ -149,7 +149,7 @@ module _ (depth : ℕ) (h : Parted depth) where
       by false true false x e f g' i = nothing-returned at (u ∷ ts) ns
       by false false true x e f g' i =
           let k = kept-among (λ kind. kind % 2 == 0) (firsts language.heads (expr true)) (token_kind u) g' in
-          value-returned at (u ∷ ts) ns ∙ on-true None k.1 refl
+          value-returned at (u ∷ ts) ns ∙ on-true (Err (wrong (u ∷ ts))) k.1 refl
       by false false false true e f g' i =
           let even : (token_kind u % 2 == 0) ≡ true = even-kind (of_kind u.kind) u.broken ∙ ap (λ b. if b then false else true) e in
           absurd (let w = among-kept (λ kind. kind % 2 == 0) (firsts language.heads (expr true)) (token_kind u) i even in cc (w, g'))
@@ -219,15 +219,15 @@ module _ (depth : ℕ) (h : Parted depth) where
   caught-step at ns b u rest e =
       assoc (st.catch_parameter (part_at depth) (rest, _)) _ _ ∙ bound-step rest _ _ _ (λ c m. assoc (g.node_of (part_at depth) parts.Block (m, _)) _ _ ∙ step h.block_part m _ _ _ (λ d n.
       step finally-sim n _ _ _ (λ f end.
-      ap (λ q. let w = mk.after ((parts_at depth).node_of parts.Block b ns) (λ block ns. mk.after (mk.caught_by (parts_at depth) q (pair (leaf u) (pair c (pair d f))) ns) (λ d. mk.added (made.Try block d.0 d.1 d.2) at)) in Some (w.0, (end, w.1))) (sym e))))
+      ap (λ q. let w = mk.after ((parts_at depth).node_of parts.Block b ns) (λ block ns. mk.after (mk.caught_by (parts_at depth) q (pair (leaf u) (pair c (pair d f))) ns) (λ d. mk.added (made.Try block d.0 d.1 d.2) at)) in Ok (w.0, (end, w.1))) (sym e))))
 
   pub finally-step : (at : ℕ) (ns : Nodes) (b : Tree Token) (m : List Token)
       → told (let w = (parts_at depth).node_of parts.Block b ns in try_by at w.0 false (m, w.1)) ≡ guided language ahead (rule depth) finally_x m (try_k at ns b)
-  unfolding st.finally_clause first_token add
+  unfolding st.finally_clause first_token add refusals
   finally-step at ns b m =
       eat-need+ depth Symbols.only-finally m _ (λ last i. and_then (finally_by true last i) (λ last. add (made.Try ((parts_at depth).node_of parts.Block b ns).0 None None last) at)) (call 1) (try_k at ns b)
       (λ u rest w. assoc (g.node_of (part_at depth) parts.Block (rest, _)) _ _ ∙ step h.block_part rest _ _ _ (λ a end.
-      ap (λ q. let w = mk.after ((parts_at depth).node_of parts.Block b ns) (λ block ns. mk.after (mk.caught_by (parts_at depth) q (pair (leaf u) a) ns) (λ d. mk.added (made.Try block d.0 d.1 d.2) at)) in Some (w.0, (end, w.1))) (sym (Symbols.is-finally (of_kind u.kind) w)))) refl
+      ap (λ q. let w = mk.after ((parts_at depth).node_of parts.Block b ns) (λ block ns. mk.after (mk.caught_by (parts_at depth) q (pair (leaf u) a) ns) (λ d. mk.added (made.Try block d.0 d.1 d.2) at)) in Ok (w.0, (end, w.1))) (sym (Symbols.is-finally (of_kind u.kind) w)))) refl
 
   pub try-step : (t : Token) (ts : List Token) (ns : Nodes) → told (st.try_statement (part_at depth) (t ∷ ts, ns))
       ≡ guided language ahead (rule depth) (both (call 1) (either (both (token (kinds (word (codes "catch") ∷ []))) catch_behind) finally_x)) ts (λ b rest. built (mk.try_statement (parts_at depth)) ns (pair (leaf t) b) rest)
@@ -286,7 +286,7 @@ module _ (depth : ℕ) (h : Parted depth) where
   unfolding vacant stmt_rule
   stmt-takes = ap (λ b. if b then false else false) (expr-takes depth h true)
 
-  pub statement-end : (ns : Nodes) → told (st.expression_statement (part_at depth) ([], ns)) ≡ None
+  pub statement-end : (ns : Nodes) → told (st.expression_statement (part_at depth) ([], ns)) ≡ Err (wrong [])
   unfolding st.expression_statement
   statement-end ns = none-first (g.expression (part_at depth) true ([], ns)) _ ((expression-sim depth h true).holds [] ns ∙ none-at_end depth (expr_rule true) (expr-takes depth h true) _)
 
@@ -348,7 +348,7 @@ module _ (depth : ℕ) (h : Parted depth) where
   block_f at found = take_token >> add (made.Block found) at
 
   abbrev pub block_fin : ℕ → List NodeId → Nodes → Goes Token (NodeId × Input)
-  block_fin at found ns c rest = let w = mk.added (made.Block found) at ns in Some (w.0, (rest, w.1))
+  block_fin at found ns c rest = let w = mk.added (made.Block found) at ns in Ok (w.0, (rest, w.1))
 
   abbrev pub items_by : {B : Type 0} → ℕ → List NodeId → (List NodeId → Parser B) → Symbol → Bool → Parser B
   items_by n found f close ended = if ended then f found else (λ i. and_then (st.item (part_at depth) i) (λ x i. and_then (st.items_from (part_at depth) close n (found ++ x ∷ []) i) f))
@@ -364,7 +364,7 @@ module _ (depth : ℕ) (h : Parted depth) where
       by false = assoc (st.item (part_at depth) (ts, ns)) _ f
 
   pub block-sim : Sim depth (st.block (part_at depth)) block_rule (mk.block (parts_at depth))
-  unfolding st.block st.items st.items_from block_rule mk.block guided place vacant next add
+  unfolding st.block st.items st.items_from block_rule mk.block guided place vacant next add refusals
   block-sim = sim-at depth (st.block (part_at depth)) (λ at tree ns. mk.after (mk.all_behind (mk.item (parts_at depth)) [] (first (second tree)) ns) (λ items. mk.added (made.Block items) at)) block_rule refl
       (λ ts ns. step-expect Symbols.only-open_brace ts ns _ _ (λ t m.
       items-loop depth item-line line-takes item-placed item-full Symbols.only-close_brace items-parted.0 (st.items_from (part_at depth) s.CloseBrace) (λ found us ns. refl)

@@ -1,6 +1,6 @@
 -- Templates.
 use Rattle.std.proofs.Common.{true, false, Bool, ◌≡◌, ℕ, zero, suc, ◌≤◌, List, [], ◌∷◌, ◌++◌, length, refl, ap, sym, ◌∙◌, arith}
-use Rattle.std.specs.Prelude.{Option, None, if◌then◌else◌}
+use Rattle.std.specs.Prelude.{Option, None, if◌then◌else◌, Err}
 use Rattle.grammar.specs.Kinds.{among, apart}
 use Rattle.grammar.specs.Reading.{firsts, nullable}
 use Rattle.grammar.specs.Grammar.{Tree, tip, leaf, pair, both, token}
@@ -20,9 +20,9 @@ use Rattle.js_parse.specs.Nesting.{part_at}
 use Rattle.parse_laws.specs.Kinds.{token_kind}
 use Rattle.parse_laws.specs.Trees as mk
 use Rattle.parse_laws.specs.Trees.{Parts, parts_at, place_in, symbol_in, first_token, first, second, under, Build}
-use Rattle.parse_laws.proofs.Guided.{guided, many_of, taking}
-use Rattle.parse_laws.proofs.Sound.{read-front, read-shorter}
-use Rattle.parse_laws.proofs.Walk.{language, ahead, rule, told, built, step+, each-takes, at_kind, kind-at, none-at_end, assoc, tables}
+use Rattle.parse_laws.proofs.Guided.{guided, many_of, taking, Told, wrong}
+use Rattle.parse_laws.proofs.Sound.{vacant, read-front, read-shorter}
+use Rattle.parse_laws.proofs.Walk.{refusals, language, ahead, rule, told, built, step+, each-takes, at_kind, kind-at, none-at_end, assoc, tables}
 use Rattle.parse_laws.proofs.Symbols.{only-template_tail, only-template_middle}
 use Rattle.parse_laws.proofs.Parted.{Parted}
 use Rattle.parse_laws.proofs.Arrows.{expression-sim, expr-takes}
@@ -50,7 +50,7 @@ module _ (depth : ℕ) (h : Parted depth) where
   abbrev pub stretch_x : Rule
   stretch_x = both (token middles) (expr true)
 
-  abbrev pub ended : (Pieces → Parser NodeId) → List (List ℕ) → List NodeId → Nodes → Tree Token → List Token → Option (NodeId × Input)
+  abbrev pub ended : (Pieces → Parser NodeId) → List (List ℕ) → List NodeId → Nodes → Tree Token → List Token → Told (NodeId × Input)
   ended f texts values ns d m = taking language tails_ m (λ u rest. let w = mk.stretches (parts_at depth) texts values d u ns in told (f w.0 (rest, w.1)))
 
   abbrev pub Reads-stretches : (Pieces → Parser NodeId) → ℕ → ℕ → Type 0
@@ -63,13 +63,13 @@ module _ (depth : ℕ) (h : Parted depth) where
   stretches-parted = refl
 
   pub no-stretch : (f : Pieces → Parser NodeId) (m : ℕ) (texts : List (List ℕ)) (values : List NodeId) (ns : Nodes)
-      → told (and_then (last_by m texts values (sees s.TemplateTail ([], ns)) ([], ns)) f) ≡ None
-  unfolding sees symbol
+      → told (and_then (last_by m texts values (sees s.TemplateTail ([], ns)) ([], ns)) f) ≡ Err (wrong [])
+  unfolding sees symbol refusals
   no-stretch f m texts values ns = ap (λ v. told (and_then (last_by m texts values v ([], ns)) f)) only-template_tail.no_end
       ∙ ap (λ v. told (and_then (middle_by m texts values v ([], ns)) f)) only-template_middle.no_end
 
   pub stretches-loop : (f : Pieces → Parser NodeId) (n m : ℕ) → Reads-stretches f n m
-  unfolding g.template_from mk.stretches many_of guided firsts nullable sees symbol text_next next token_kind first_token
+  unfolding g.template_from mk.stretches many_of guided firsts nullable sees symbol text_next next token_kind first_token refusals
   stretches-loop f zero m texts values [] ns few less = no-stretch f m texts values ns
   stretches-loop f zero m texts values (t ∷ ts) ns few less = absurd (omega (arith, few))
   stretches-loop f (suc n) m texts values [] ns few less = no-stretch f m texts values ns
@@ -78,14 +78,14 @@ module _ (depth : ℕ) (h : Parted depth) where
       ap (λ v. told (and_then (last_by (suc j) texts values v (t ∷ ts, ns)) f)) (only-template_tail.agrees (of_kind t.kind) t.broken)
       ∙ by (stretches-loop f n j) (among tails_ (token_kind t)) (among middles (token_kind t)) refl refl
       ∙ ap (λ g. if among g (token_kind t) then (if among middles (token_kind t) then guided language ahead (rule depth) (expr_rule true) ts (λ e m.
-      many_of language (among (middles ++ [])) always (guided language ahead (rule depth) stretch_x) n m (λ d end. ended f texts values ns (pair (pair (leaf t) e) d) end)) else None)
+      many_of language (among (middles ++ [])) always (guided language ahead (rule depth) stretch_x) n m (λ d end. ended f texts values ns (pair (pair (leaf t) e) d) end)) else Err (wrong (t ∷ ts)))
       else ended f texts values ns tip (t ∷ ts)) (sym (append-nil middles))
     where
       by : Reads-stretches f n j → (v x : Bool) → among tails_ (token_kind t) ≡ v → among middles (token_kind t) ≡ x
           → told (and_then (last_by (suc j) texts values v (t ∷ ts, ns)) f)
           ≡ (if x then (if x then guided language ahead (rule depth) (expr_rule true) ts (λ e m.
-          many_of language (among (middles ++ [])) always (guided language ahead (rule depth) stretch_x) n m (λ d end. ended f texts values ns (pair (pair (leaf t) e) d) end)) else None)
-          else (if v then told (f (texts ++ text_of t.kind ∷ [], values) (ts, ns)) else None))
+          many_of language (among (middles ++ [])) always (guided language ahead (rule depth) stretch_x) n m (λ d end. ended f texts values ns (pair (pair (leaf t) e) d) end)) else Err (wrong (t ∷ ts)))
+          else (if v then told (f (texts ++ text_of t.kind ∷ [], values) (ts, ns)) else Err (wrong (t ∷ ts))))
       by ih true true p q = absurd (apart-tells tails_ middles (token_kind t) stretches-parted p q)
       by ih true false p q = refl
       by ih false false p q = ap (λ v. told (and_then (middle_by (suc j) texts values v (t ∷ ts, ns)) f)) (only-template_middle.agrees (of_kind t.kind) t.broken ∙ q)
@@ -96,8 +96,9 @@ module _ (depth : ℕ) (h : Parted depth) where
 
   pub template-step : (t : Token) (ts : List Token) (ns : Nodes) → told (g.template (part_at depth) (t ∷ ts, ns))
       ≡ guided language ahead (rule depth) (both (expr true) (both (any stretch_x) (token tails_))) ts (λ b rest. built (mk.template (parts_at depth)) ns (pair (leaf t) b) rest)
-  unfolding g.template g.template_parts g.template_from mk.template place next text_next add guided first_token
-  template-step t [] ns = sym (none-at_end depth (expr_rule true) (expr-takes depth h true) _)
+  unfolding g.template g.template_parts g.template_from mk.template place next text_next add guided first_token vacant refusals
+  template-step t [] ns = sym (none-at_end depth (both (expr true) (both (any stretch_x) (token tails_)))
+      (ap (λ b. if b then vacant (both (any stretch_x) (token tails_)) else false) (expr-takes depth h true)) (λ b rest. built (mk.template (parts_at depth)) ns (pair (leaf t) b) rest))
   template-step t (u ∷ ts) ns = assoc (g.expression (part_at depth) true (u ∷ ts, ns)) _ _ ∙ step+ (expression-sim depth h true) (u ∷ ts) ns _ _ (λ e m w.
       let f = read-front language ahead depth each-takes (expr_rule true) (expr-takes depth h true) (u ∷ ts) m e w in
       let size : suc (length ts) ≡ suc (length (f.1)) = ap (λ l. length l) (f.2) in

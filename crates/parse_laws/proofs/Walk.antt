@@ -1,13 +1,13 @@
 -- Steps by which what the parser reads is compared with what is read by the grammar.
-use Rattle.std.proofs.Common.{inl, inr, true, false, Bool, ◌≡◌, ℕ, zero, suc, ◌≤◌, List, [], ◌∷◌, ◌++◌, length, refl, ap, sym, ◌∙◌, arith, codes}
+use Rattle.std.proofs.Common.{inl, inr, true, false, Bool, ◌⊎◌, ◌≡◌, ℕ, zero, suc, ◌≤◌, List, [], ◌∷◌, ◌++◌, length, refl, ap, sym, ◌∙◌, arith, codes}
 use Rattle.std.proofs.lemmas.List.{append-nil}
 use Rattle.std.specs.Prelude.{if◌then◌else◌, ◌==◌, ◌%◌, Option, Some, None, Ok, Err}
 use Rattle.grammar.specs.Kinds.{among, kept, alike}
 use Rattle.grammar.specs.Grammar.{Tree, tip, leaf, pair, node, Grammar, empty, token, call, line, both, either, fork, many, named, prefer, starting, on, entry, starts, Derives, Spells, Chain}
 use Rattle.grammar.specs.Reading.{firsts, nullable}
 use Rattle.grammar.specs.Tests.{Fits, InPlace}
-use Rattle.grammar.proofs.Sets.{begun-surely, test_was}
-use Rattle.grammar.proofs.Complete.{derives-begun, spells-begun}
+use Rattle.grammar.proofs.Sets.{test_was, off-left, off-right, off-covered, off-kept, or_right}
+use Rattle.grammar.proofs.Complete.{in-place}
 use Rattle.js_token.specs.declared.token.Token.{Token}
 use Rattle.js_tree.specs.Nodes.{Nodes}
 use Rattle.js_grammar.specs.Kinds.{kinds, unbroken_kinds, names, reserved, place_in as kind_place, mark, word, marks, words, contextual}
@@ -17,12 +17,12 @@ use Rattle.js_grammar.proofs.Passes.{script-fits}
 use Rattle.js_parse.specs.declared.symbol.Symbol.{Symbol}
 use Rattle.js_parse.specs.declared.symbol.Symbol.TheVariants as s
 use Rattle.js_parse.specs.Symbols.{same, of_kind, is_name, is_any_name}
-use Rattle.js_parse.specs.Input.{Input, Outcome, Parser, and_then, expect, sees, after, next, refusal, symbol, symbol as symbol_named, is_arrow_ahead, is_arrow_next, arrow, is_arrow, ◌>>=◌, peek, place_at, name as a_name, any_name, text_of, text, take_text, refuse}
+use Rattle.js_parse.specs.Input.{Input, Outcome, Parser, and_then, expect, sees, after, next, refusal, place, symbol, symbol as symbol_named, is_arrow_ahead, is_arrow_next, arrow, is_arrow, ◌>>=◌, peek, place_at, name as a_name, any_name, text_of, text, take_text, refuse}
 use Rattle.parse_laws.specs.Kinds.{token_kind, numbered}
 pub use Rattle.parse_laws.specs.Agreement.{language}
 use Rattle.parse_laws.specs.Trees.{Build, first_token, symbol_in, symbol_of_first, place_in, place_of_first, one_of}
-use Rattle.parse_laws.proofs.Guided.{Was, Goes, done, called, taking, many_of, guided, rule_at, some_same, called_some, was, many-continues, guided-continues}
-use Rattle.parse_laws.proofs.Sound.{vacant, guided-finds, rule-finds, read-front}
+use Rattle.parse_laws.proofs.Guided.{Was, Goes, done, called, taking, many_of, guided, rule_at, ok_same, called_ok, was, many-continues, guided-continues, Told, wrong, too_far}
+use Rattle.parse_laws.proofs.Sound.{vacant, guided-finds, rule-finds, read-front, or_left}
 
 -- whether an arrow comes, rather than another expression
 unfoldable pub ahead : List Token → Bool
@@ -31,14 +31,13 @@ ahead ts = if sees s.OpenParen (ts, []) then is_arrow_ahead (ts, []) else (if is
 abbrev pub rule : ℕ → ℕ → List Token → Was Token
 rule depth = rule_at language ahead depth
 
--- what the parser tells, without faults
-abbrev pub told : {A : Type 0} → Outcome A → Option (A × Input)
-told (Ok p) = Some p
-told (Err e) = None
+-- what the parser tells
+abbrev pub told : {A : Type 0} → Outcome A → Told (A × Input)
+told o = o
 
 -- the nodes of what was read
 abbrev pub built : {A : Type 0} → (Tree Token → Build A) → Nodes → Goes Token (A × Input)
-built b ns tree rest = Some ((b tree ns).0, (rest, (b tree ns).1))
+built b ns tree rest = Ok ((b tree ns).0, (rest, (b tree ns).1))
 
 -- The parser reads by the right side, and builds so.
 pub record Sim (depth : ℕ) {A : Type 0} (p : Parser A) (x : Grammar Token) (b : Tree Token → Build A) : Type 0 where
@@ -46,17 +45,17 @@ pub record Sim (depth : ℕ) {A : Type 0} (p : Parser A) (x : Grammar Token) (b 
 
 pub step-at : {A B : Type 0} (o : Outcome A) (w : Was Token) (b : Tree Token → Build A) (ns : Nodes) (f : A → Parser B) (k : Goes Token (B × Input))
     → told o ≡ called w (built b ns)
-    → ((tree : Tree Token) (rest : List Token) → w ≡ Some (tree, rest) → told (f (b tree ns).0 (rest, (b tree ns).1)) ≡ k tree rest)
+    → ((tree : Tree Token) (rest : List Token) → w ≡ Ok (tree, rest) → told (f (b tree ns).0 (rest, (b tree ns).1)) ≡ k tree rest)
     → told (and_then o f) ≡ called w k
-step-at (Ok p) None b ns f k e h = absurd (cc (e))
-step-at (Ok p) (Some q) b ns f k e h = ap (λ p. told (f p.0 p.1)) (some_same _ _ e) ∙ h q.0 q.1 refl
-step-at (Err c) None b ns f k e h = refl
-step-at (Err c) (Some q) b ns f k e h = absurd (cc (e))
+step-at (Ok p) (Err d) b ns f k e h = absurd (cc (e))
+step-at (Ok p) (Ok q) b ns f k e h = ap (λ p. told (f p.0 p.1)) (ok_same _ _ e) ∙ h q.0 q.1 refl
+step-at (Err c) (Err d) b ns f k e h = let same : c ≡ d = cc (e) in ap (λ d. Err d) same
+step-at (Err c) (Ok q) b ns f k e h = absurd (cc (e))
 
 -- and then goes on
 pub step+ : {depth : ℕ} {A B : Type 0} {p : Parser A} {x : Grammar Token} {b : Tree Token → Build A} → Sim depth p x b → (ts : List Token) (ns : Nodes)
     → (f : A → Parser B) (k : Goes Token (B × Input))
-    → ((tree : Tree Token) (rest : List Token) → guided language ahead (rule depth) x ts done ≡ Some (tree, rest)
+    → ((tree : Tree Token) (rest : List Token) → guided language ahead (rule depth) x ts done ≡ Ok (tree, rest)
     → told (f (b tree ns).0 (rest, (b tree ns).1)) ≡ k tree rest)
     → told (and_then (p (ts, ns)) f) ≡ guided language ahead (rule depth) x ts k
 step+ {depth} {A} {B} {p} {x} {b} sim ts ns f k h =
@@ -69,6 +68,15 @@ pub step : {depth : ℕ} {A B : Type 0} {p : Parser A} {x : Grammar Token} {b : 
     → ((tree : Tree Token) (rest : List Token) → told (f (b tree ns).0 (rest, (b tree ns).1)) ≡ k tree rest)
     → told (and_then (p (ts, ns)) f) ≡ guided language ahead (rule depth) x ts k
 step sim ts ns f k h = step+ sim ts ns f k (λ tree rest e. h tree rest)
+
+-- the same, where it is known of these tokens alone
+pub step-so : {A B : Type 0} (depth : ℕ) (o : Outcome A) (x : Grammar Token) (b : Tree Token → Build A) (ts : List Token) (ns : Nodes) (f : A → Parser B) (k : Goes Token (B × Input))
+    → told o ≡ guided language ahead (rule depth) x ts (built b ns)
+    → ((tree : Tree Token) (rest : List Token) → told (f (b tree ns).0 (rest, (b tree ns).1)) ≡ k tree rest)
+    → told (and_then o f) ≡ guided language ahead (rule depth) x ts k
+step-so {A} {B} depth o x b ts ns f k e h =
+    step-at o (guided language ahead (rule depth) x ts done) b ns f k (e ∙ guided-continues language ahead (rule depth) (A × Input) x ts (built b ns)) (λ tree rest w. h tree rest)
+    ∙ sym (guided-continues language ahead (rule depth) (B × Input) x ts k)
 
 -- ---- tokens
 
@@ -97,19 +105,19 @@ expected b i f = and_then (if b then Ok (tt, next i) else Err (refusal i)) f
 pub step-expect : {B : Type 0} {x : Symbol} {kinds : List ℕ} → Only x kinds → (ts : List Token) (ns : Nodes) (f : Unit {0} → Parser B) (k : Goes Token (B × Input))
     → ((t : Token) (rest : List Token) → told (f tt (rest, ns)) ≡ k (leaf t) rest)
     → told (and_then (expect x (ts, ns)) f) ≡ taking language kinds ts k
-unfolding expect sees symbol next token_kind
+unfolding expect sees symbol next token_kind refusal place
 step-expect {B} {x} {kinds} only [] ns f k h = ap (λ b. told (expected b ([], ns) f)) only.no_end
 step-expect {B} {x} {kinds} only (t ∷ ts) ns f k h =
     ap (λ b. told (expected b (t ∷ ts, ns) f)) (only.agrees (of_kind t.kind) t.broken) ∙ by (among kinds (token_kind t))
   where
-    by : (b : Bool) → told (expected b (t ∷ ts, ns) f) ≡ (if b then k (leaf t) ts else None)
+    by : (b : Bool) → told (expected b (t ∷ ts, ns) f) ≡ (if b then k (leaf t) ts else Err (wrong (t ∷ ts)))
     by true = h t ts
     by false = refl
 
 -- ---- a token that may come
 
 pub eat-or : {A : Type 0} {x : Symbol} {kinds : List ℕ} (depth : ℕ) → Only x kinds → (ts : List Token) (ns : Nodes) (g : Bool → Input → Outcome A) (y : Grammar Token)
-    (k : Goes Token (A × Input)) (m : Option (A × Input))
+    (k : Goes Token (A × Input)) (m : Told (A × Input))
     → ((t : Token) (rest : List Token) → ts ≡ t ∷ rest → same (of_kind t.kind) x ≡ true → told (g true (rest, ns)) ≡ guided language ahead (rule depth) y rest (λ b end. k (pair (leaf t) b) end))
     → told (g false (ts, ns)) ≡ m
     → told (g (sees x (ts, ns)) (after x (ts, ns)))
@@ -120,11 +128,11 @@ eat-or {A} {x} {kinds} depth only [] ns g y k m h o =
 eat-or {A} {x} {kinds} depth only (t ∷ ts) ns g y k m h o =
     ap (λ b. told (g b (if b then (ts, ns) else (t ∷ ts, ns)))) (only.agrees (of_kind t.kind) t.broken)
     ∙ by (among kinds (token_kind t)) refl
-    ∙ ap (λ f. if among f (token_kind t) then (if among kinds (token_kind t) then guided language ahead (rule depth) y ts (λ b end. k (pair (leaf t) b) end) else None)
+    ∙ ap (λ f. if among f (token_kind t) then (if among kinds (token_kind t) then guided language ahead (rule depth) y ts (λ b end. k (pair (leaf t) b) end) else Err (wrong (t ∷ ts)))
     else m) (sym (append-nil kinds))
   where
     by : (b : Bool) → among kinds (token_kind t) ≡ b → told (g b (if b then (ts, ns) else (t ∷ ts, ns)))
-        ≡ (if b then (if b then guided language ahead (rule depth) y ts (λ b end. k (pair (leaf t) b) end) else None) else m)
+        ≡ (if b then (if b then guided language ahead (rule depth) y ts (λ b end. k (pair (leaf t) b) end) else Err (wrong (t ∷ ts))) else m)
     by true e = h t ts refl (only.agrees (of_kind t.kind) t.broken ∙ e)
     by false e = o
 
@@ -165,20 +173,74 @@ rules-take = (refl, (refl, (refl, (refl, (refl, (refl, (refl, (refl, (refl, (ref
 pub each-takes : (n : ℕ) → vacant (language.rules n) ≡ false
 each-takes n = take-at rules n rules-take
 
-pub none-at_end : {C : Type 0} (depth : ℕ) (x : Grammar Token) → vacant x ≡ false → (k : Goes Token C) → guided language ahead (rule depth) x [] k ≡ None
-none-at_end {C} depth x v k = guided-continues language ahead (rule depth) C x [] k ∙ by (guided language ahead (rule depth) x [] done) refl
-  where
-    by : (w : Was Token) → guided language ahead (rule depth) x [] done ≡ w → called w k ≡ None
-    by None e = refl
-    by (Some p) e = let f = read-front language ahead depth each-takes x v [] p.1 p.0 e in absurd (let e = f.2 in cc (e))
+-- At the end of the tokens nothing is read, or nothing is there.
+abbrev pub Ends : Was Token → Type 0
+Ends w = (w ≡ Err (wrong [])) ⊎ ((a : Tree Token) × (w ≡ Ok (a, [])))
 
-pub called-agree : {C : Type 0} (w : Was Token) (k k' : Goes Token C) → ((tree : Tree Token) (rest : List Token) → w ≡ Some (tree, rest) → k tree rest ≡ k' tree rest) → called w k ≡ called w k'
-called-agree None k k' h = refl
-called-agree (Some p) k k' h = h p.0 p.1 refl
+pub ends-then : {C : Type 0} (w : Was Token) (k : Goes Token C) → Ends w → (called w k ≡ Err (wrong [])) ⊎ ((a : Tree Token) × (called w k ≡ k a []))
+ends-then w k e = elim e [ inl h ↦ inl (ap (λ w. called w k) h) | inr h ↦ inr (h.0, ap (λ w. called w k) h.1) ]
+
+pub ends-if : (b : Bool) (x y : Was Token) → Ends x → Ends y → Ends (if b then x else y)
+ends-if true x y v w = v
+ends-if false x y v w = w
+
+module _ (depth : ℕ) (r : ℕ → List Token → Was Token) (h : (n : ℕ) → Ends (r n [])) where
+  pub guided-ends : (x : Grammar Token) → Ends (guided language ahead r x [] done)
+  unfolding guided many_of ahead sees symbol same
+  guided-ends empty = inr (tip, refl)
+  guided-ends (token kinds) = inl refl
+  guided-ends (call name) = ends-then (r name []) done (h name)
+  guided-ends (line name x) = guided-ends x
+  guided-ends (both x y) =
+      elim (ends-then (guided language ahead r x [] done) (λ a mid. guided language ahead r y mid (λ b rest. done (pair a b) rest)) (guided-ends x)) [
+        | inl e ↦ inl (guided-continues language ahead r (Tree Token × List Token) x [] _ ∙ e)
+        | inr e ↦ elim (ends-then (guided language ahead r y [] done) (λ b rest. done (pair e.0 b) rest) (guided-ends y)) [
+          | inl f ↦ inl (guided-continues language ahead r (Tree Token × List Token) x [] _ ∙ e.1 ∙ guided-continues language ahead r (Tree Token × List Token) y [] _ ∙ f)
+          | inr f ↦ inr (pair e.0 f.0, guided-continues language ahead r (Tree Token × List Token) x [] _ ∙ e.1 ∙ guided-continues language ahead r (Tree Token × List Token) y [] _ ∙ f.1)
+        ]
+      ]
+  guided-ends (either x y) = guided-ends y
+  guided-ends (fork stop x y) = guided-ends x
+  guided-ends (many more x) = inr (tip, refl)
+  guided-ends (named name x) = elim (ends-then (guided language ahead r x [] done) (λ a rest. done (node name a) rest) (guided-ends x)) [
+    | inl e ↦ inl (guided-continues language ahead r (Tree Token × List Token) x [] _ ∙ e)
+    | inr e ↦ inr (node name e.0, guided-continues language ahead r (Tree Token × List Token) x [] _ ∙ e.1)
+  ]
+  guided-ends (prefer kinds x) = inr (tip, refl)
+  guided-ends (starting test x) = inl refl
+  guided-ends (on test x y z) =
+      elim (ends-then (guided language ahead r x [] done) (λ a mid. if test a then guided language ahead r y mid (λ b rest. done (pair a b) rest) else guided language ahead r z mid (λ b rest. done (pair a b) rest)) (guided-ends x)) [
+        | inl e ↦ inl (guided-continues language ahead r (Tree Token × List Token) x [] _ ∙ e)
+        | inr e ↦ elim (ends-if (test e.0) _ _ (part e.0 y (guided-ends y)) (part e.0 z (guided-ends z))) [
+          | inl f ↦ inl (guided-continues language ahead r (Tree Token × List Token) x [] _ ∙ e.1 ∙ f)
+          | inr f ↦ inr (f.0, guided-continues language ahead r (Tree Token × List Token) x [] _ ∙ e.1 ∙ f.1)
+        ]
+      ]
+    where
+      part : (a : Tree Token) (y : Grammar Token) → Ends (guided language ahead r y [] done) → Ends (guided language ahead r y [] (λ b rest. done (pair a b) rest))
+      part a y w = elim (ends-then (guided language ahead r y [] done) (λ b rest. done (pair a b) rest) w) [
+        | inl f ↦ inl (guided-continues language ahead r (Tree Token × List Token) y [] _ ∙ f)
+        | inr f ↦ inr (pair a f.0, guided-continues language ahead r (Tree Token × List Token) y [] _ ∙ f.1)
+      ]
+
+pub rule-ends : (depth n : ℕ) → Ends (rule depth n [])
+unfolding rule_at
+rule-ends zero n = inl refl
+rule-ends (suc depth) n = guided-ends depth (rule depth) (rule-ends depth) (language.rules n)
+
+pub none-at_end : {C : Type 0} (depth : ℕ) (x : Grammar Token) → vacant x ≡ false → (k : Goes Token C) → guided language ahead (rule depth) x [] k ≡ Err (wrong [])
+none-at_end {C} depth x v k = guided-continues language ahead (rule depth) C x [] k ∙ elim (guided-ends depth (rule depth) (rule-ends depth) x) [
+  | inl e ↦ ap (λ w. called w k) e
+  | inr e ↦ let f = read-front language ahead depth each-takes x v [] [] e.0 e.1 in absurd (let w = f.2 in cc (w))
+]
+
+pub called-agree : {C : Type 0} (w : Was Token) (k k' : Goes Token C) → ((tree : Tree Token) (rest : List Token) → w ≡ Ok (tree, rest) → k tree rest ≡ k' tree rest) → called w k ≡ called w k'
+called-agree (Err e) k k' h = refl
+called-agree (Ok p) k k' h = h p.0 p.1 refl
 
 -- what goes on may be told another way
 pub goes-so : {C : Type 0} (depth : ℕ) (x : Grammar Token) (ts : List Token) (k k' : Goes Token C)
-    → ((tree : Tree Token) (rest : List Token) → guided language ahead (rule depth) x ts done ≡ Some (tree, rest) → k tree rest ≡ k' tree rest)
+    → ((tree : Tree Token) (rest : List Token) → guided language ahead (rule depth) x ts done ≡ Ok (tree, rest) → k tree rest ≡ k' tree rest)
     → guided language ahead (rule depth) x ts k ≡ guided language ahead (rule depth) x ts k'
 goes-so {C} depth x ts k k' h =
     guided-continues language ahead (rule depth) C x ts k ∙ called-agree (guided language ahead (rule depth) x ts done) k k' h
@@ -199,21 +261,21 @@ at-first depth b x v ts ns = goes-so depth x ts _ _ (λ tree rest e.
 
 -- ---- by the next token
 
-abbrev pub took : {C : Type 0} → List Token → Goes Token C → Option C
-took [] k = None
+abbrev pub took : {C : Type 0} → List Token → Goes Token C → Told C
+took [] k = Err (wrong [])
 took (t ∷ ts) k = k (leaf t) ts
 
 module _ (depth n : ℕ) where
   -- where the next token is of the kind n
-  unfoldable pub at_kind : {C : Type 0} → Grammar Token → List Token → Goes Token C → Option C
+  unfoldable pub at_kind : {C : Type 0} → Grammar Token → List Token → Goes Token C → Told C
   at_kind empty ts k = k tip ts
-  at_kind (token kinds) ts k = if among kinds n then took ts k else None
+  at_kind (token kinds) ts k = if among kinds n then took ts k else Err (wrong ts)
   at_kind (both x y) ts k = at_kind x ts (λ a mid. guided language ahead (rule depth) y mid (λ b rest. k (pair a b) rest))
   at_kind (either x y) ts k = if among (firsts language.heads x) n then at_kind x ts k else at_kind y ts k
   at_kind (named name x) ts k = at_kind x ts (λ a rest. k (node name a) rest)
   at_kind (prefer kinds x) ts k = if among kinds n then at_kind x ts k else k tip ts
-  at_kind (starting test x) ts k = if test n then at_kind x ts k else None
-  at_kind (call name) ts k = if among (language.heads name) n then guided language ahead (rule depth) (call name) ts k else None
+  at_kind (starting test x) ts k = if test n then at_kind x ts k else Err (wrong ts)
+  at_kind (call name) ts k = if among (language.heads name) n then guided language ahead (rule depth) (call name) ts k else Err (wrong ts)
   at_kind (line name x) ts k = guided language ahead (rule depth) x ts k
   at_kind (fork stop x y) ts k = guided language ahead (rule depth) (fork stop x y) ts k
   at_kind (many more x) ts k = guided language ahead (rule depth) (many more x) ts k
@@ -227,19 +289,137 @@ pub language-fits : Fits language (entry [] tails)
 unfolding script_language
 language-fits = script-fits
 
+-- ---- where none of its first kinds comes
+
+pub chosen-false : {A : Type 0} (b : Bool) (x y : A) → b ≡ false → (if b then x else y) ≡ y
+chosen-false true x y e = absurd (cc (e))
+chosen-false false x y e = refl
+
+pub chosen-true : {A : Type 0} (b : Bool) (x y : A) → b ≡ true → (if b then x else y) ≡ x
+chosen-true true x y e = refl
+chosen-true false x y e = absurd (cc (e))
+
+-- Nothing is read, or nothing is there, where it may be empty.
+abbrev pub Stays : Bool → List Token → Was Token → Type 0
+Stays none ts w = (w ≡ Err (wrong ts)) ⊎ ((none ≡ true) × (a : Tree Token) × (w ≡ Ok (a, ts)))
+
+pub stays-then : {C : Type 0} (none : Bool) (ts : List Token) (w : Was Token) (k : Goes Token C) → Stays none ts w
+    → (called w k ≡ Err (wrong ts)) ⊎ ((none ≡ true) × (a : Tree Token) × (called w k ≡ k a ts))
+stays-then none ts w k e = elim e [ inl h ↦ inl (ap (λ w. called w k) h) | inr h ↦ inr (h.0, h.1, ap (λ w. called w k) h.2) ]
+
+pub stays-if : (b none : Bool) (ts : List Token) (x y : Was Token) → (b ≡ true → Stays none ts x) → (b ≡ false → Stays none ts y) → Stays none ts (if b then x else y)
+stays-if true none ts x y v w = v refl
+stays-if false none ts x y v w = w refl
+
+module _ (r : ℕ → List Token → Was Token) (ts : List Token) (h : (n : ℕ) → starts language (among (language.heads n)) ts ≡ false → r n ts ≡ Err (wrong ts)) where
+  -- The second of a pair, behind what took nothing.
+  pub second-stays : (none : Bool) (a : Tree Token) (y : Grammar Token) → Stays none ts (guided language ahead r y ts done) → Stays none ts (guided language ahead r y ts (λ b rest. done (pair a b) rest))
+  second-stays none a y w = elim (stays-then none ts (guided language ahead r y ts done) (λ b rest. done (pair a b) rest) w) [
+    | inl f ↦ inl (guided-continues language ahead r (Tree Token × List Token) y ts _ ∙ f)
+    | inr f ↦ inr (f.0, pair a f.1, guided-continues language ahead r (Tree Token × List Token) y ts _ ∙ f.2)
+  ]
+
+  pub last-off : (b : Bool) (xs ys : List ℕ) → starts language (among (xs ++ (if b then ys else []))) ts ≡ false → b ≡ true → starts language (among ys) ts ≡ false
+  last-off true xs ys o n = off-right language xs ys ts o
+  last-off false xs ys o n = absurd (cc (n))
+
+  pub taken-stays : (kinds : List ℕ) (us : List Token) → starts language (among kinds) us ≡ false → taking language kinds us done ≡ Err (wrong us)
+  taken-stays kinds [] o = refl
+  taken-stays kinds (u ∷ us) o = chosen-false (among kinds (language.kind u)) _ _ o
+
+  pub many-stays : (test : ℕ → Bool) (more : Tree Token → Bool) (g : List Token → Goes Token (Tree Token × List Token) → Was Token) (n : ℕ) → starts language test ts ≡ false
+      → many_of language test more g n ts done ≡ Ok (tip, ts)
+  unfolding many_of
+  many-stays test more g zero o = refl
+  many-stays test more g (suc n) o = chosen-false (starts language test ts) _ _ o
+
+  pub guided-stays : (x : Grammar Token) → InPlace language.rules x → starts language (among (firsts language.heads x)) ts ≡ false → Stays (nullable x) ts (guided language ahead r x ts done)
+  unfolding guided firsts nullable InPlace
+  guided-stays empty i o = inr (refl, tip, refl)
+  guided-stays (token kinds) i o = inl (taken-stays kinds ts o)
+  guided-stays (call name) i o = inl (ap (λ w. called w done) (h name o))
+  guided-stays (line name x) i o =
+      let t = in-place language (entry [] tails) language-fits name x i in
+      elim (guided-stays x t.4 (off-covered language (language.heads name) (firsts language.heads x) ts t.1 o)) [
+        | inl e ↦ inl e
+        | inr e ↦ absurd (let yes = e.0 in let no = t.0 in cc (yes, no))
+      ]
+  guided-stays (both x y) i o =
+      elim (stays-then (nullable x) ts (guided language ahead r x ts done) (λ a mid. guided language ahead r y mid (λ b rest. done (pair a b) rest)) (guided-stays x i.0 (off-left language (firsts language.heads x) _ ts o))) [
+        | inl e ↦ inl (guided-continues language ahead r (Tree Token × List Token) x ts _ ∙ e)
+        | inr e ↦ elim (second-stays (nullable y) e.1 y (guided-stays y i.1 (last-off (nullable x) (firsts language.heads x) (firsts language.heads y) o e.0))) [
+          | inl f ↦ inl (guided-continues language ahead r (Tree Token × List Token) x ts _ ∙ e.2 ∙ f)
+          | inr f ↦ inr (chosen-true (nullable x) (nullable y) false e.0 ∙ f.0, f.1, guided-continues language ahead r (Tree Token × List Token) x ts _ ∙ e.2 ∙ f.2)
+        ]
+      ]
+  guided-stays (either x y) i o =
+      elim (guided-stays y i.1 (off-right language (firsts language.heads x) (firsts language.heads y) ts o)) [
+        | inl e ↦ inl (chosen-false (starts language (among (firsts language.heads x)) ts) _ _ (off-left language (firsts language.heads x) (firsts language.heads y) ts o) ∙ e)
+        | inr e ↦ inr (or_right (nullable x) (nullable y) e.0, e.1, chosen-false (starts language (among (firsts language.heads x)) ts) _ _ (off-left language (firsts language.heads x) (firsts language.heads y) ts o) ∙ e.2)
+      ]
+  guided-stays (fork stop x y) i o =
+      let off = off-left language (firsts language.heads x) (firsts language.heads y) ts o in
+      elim (guided-stays x i.0 off) [
+        | inl e ↦ inl (chosen-false (starts language (among (firsts language.heads x)) ts) _ _ off ∙ e)
+        | inr e ↦ inr (or_left (nullable x) (nullable y) e.0, e.1, chosen-false (starts language (among (firsts language.heads x)) ts) _ _ off ∙ e.2)
+      ]
+  guided-stays (many more x) i o = inr (refl, tip, many-stays (among (firsts language.heads x)) more (guided language ahead r x) (length ts) o)
+  guided-stays (named name x) i o =
+      elim (stays-then (nullable x) ts (guided language ahead r x ts done) (λ a rest. done (node name a) rest) (guided-stays x i o)) [
+        | inl e ↦ inl (guided-continues language ahead r (Tree Token × List Token) x ts _ ∙ e)
+        | inr e ↦ inr (e.0, node name e.1, guided-continues language ahead r (Tree Token × List Token) x ts _ ∙ e.2)
+      ]
+  guided-stays (prefer kinds x) i o =
+      stays-if (starts language (among kinds) ts) true ts (guided language ahead r x ts done) (done tip ts)
+      (λ e. elim (guided-stays x i o) [ inl f ↦ inl f | inr f ↦ inr (refl, f.1, f.2) ]) (λ e. inr (refl, tip, refl))
+  guided-stays (starting test x) i o =
+      stays-if (starts language test ts) (nullable x) ts (guided language ahead r x ts done) (Err (wrong ts))
+      (λ e. guided-stays x i (off-kept language test (firsts language.heads x) ts o e)) (λ e. inl refl)
+  guided-stays (on test x y z) i o =
+      elim (stays-then (nullable x) ts (guided language ahead r x ts done)
+      (λ a mid. if test a then guided language ahead r y mid (λ b rest. done (pair a b) rest) else guided language ahead r z mid (λ b rest. done (pair a b) rest))
+      (guided-stays x i.0 (off-left language (firsts language.heads x) _ ts o))) [
+        | inl e ↦ inl (guided-continues language ahead r (Tree Token × List Token) x ts _ ∙ e)
+        | inr e ↦
+            let off = last-off (nullable x) (firsts language.heads x) (firsts language.heads y ++ firsts language.heads z) o e.0 in
+            let one = second-stays (nullable y) e.1 y (guided-stays y i.1 (off-left language (firsts language.heads y) (firsts language.heads z) ts off)) in
+            let two = second-stays (nullable z) e.1 z (guided-stays z i.2 (off-right language (firsts language.heads y) (firsts language.heads z) ts off)) in
+            elim (stays-if (test e.1) true ts _ _ (λ w. any-stays (nullable y) one) (λ w. any-stays (nullable z) two)) [
+              | inl f ↦ inl (guided-continues language ahead r (Tree Token × List Token) x ts _ ∙ e.2 ∙ f)
+              | inr f ↦ inr (e.0, f.1, guided-continues language ahead r (Tree Token × List Token) x ts _ ∙ e.2 ∙ f.2)
+            ]
+      ]
+    where
+      any-stays : (none : Bool) {w : Was Token} → Stays none ts w → Stays true ts w
+      any-stays none e = elim e [ inl h ↦ inl h | inr h ↦ inr (refl, h.1, h.2) ]
+
+pub rule-stays : (depth n : ℕ) (ts : List Token) → starts language (among (language.heads n)) ts ≡ false → rule depth n ts ≡ Err (wrong ts)
+unfolding rule_at
+rule-stays zero n ts o = ap (λ b. Err (too_far b ts)) o
+rule-stays (suc depth) n ts o =
+    let t = in-place language (entry [] tails) language-fits n (language.rules n) refl in
+    elim (guided-stays (rule depth) ts (λ n. rule-stays depth n ts) (language.rules n) t.4 (off-covered language (language.heads n) (firsts language.heads (language.rules n)) ts t.1 o)) [
+      | inl e ↦ e
+      | inr e ↦ absurd (let yes = e.0 in let no = t.0 in cc (yes, no))
+    ]
+
+-- Where none of its first kinds comes, nothing is read of a part that isn't empty.
+pub not-begun : {C : Type 0} (depth : ℕ) (x : Grammar Token) → InPlace language.rules x → nullable x ≡ false → (ts : List Token) (k : Goes Token C)
+    → starts language (among (firsts language.heads x)) ts ≡ false → guided language ahead (rule depth) x ts k ≡ Err (wrong ts)
+not-begun {C} depth x i v ts k o = guided-continues language ahead (rule depth) C x ts k ∙ elim (guided-stays (rule depth) ts (λ n. rule-stays depth n ts) x i o) [
+  | inl e ↦ ap (λ w. called w k) e
+  | inr e ↦ absurd (let yes = e.0 in cc (yes, v))
+]
+
 -- A rule begins with one of its heads.
 pub begun-call : {C : Type 0} (depth name : ℕ) (t : Token) (ts : List Token) (k : Goes Token C)
-    → guided language ahead (rule depth) (call name) (t ∷ ts) k ≡ (if among (language.heads name) (token_kind t) then guided language ahead (rule depth) (call name) (t ∷ ts) k else None)
+    → guided language ahead (rule depth) (call name) (t ∷ ts) k ≡ (if among (language.heads name) (token_kind t) then guided language ahead (rule depth) (call name) (t ∷ ts) k else Err (wrong (t ∷ ts)))
 unfolding guided
-begun-call {C} depth name t ts k = by (among (language.heads name) (token_kind t)) (rule depth name (t ∷ ts)) refl refl
+begun-call {C} depth name t ts k = by (among (language.heads name) (token_kind t)) refl
   where
-    by : (b : Bool) (w : Was Token) → among (language.heads name) (token_kind t) ≡ b → rule depth name (t ∷ ts) ≡ w → called w k ≡ (if b then called w k else None)
-    by true w e f = refl
-    by false None e f = refl
-    by false (Some p) e f =
-        let d = rule-finds language ahead depth name (t ∷ ts) p f in
-        let b = begun-surely language (language.heads name) false (t ∷ ts) p.1 refl (derives-begun language (entry [] tails) language-fits depth name (t ∷ ts) p.1 p.0 d) in
-        absurd (let on = b.0 in cc (e, on))
+    by : (b : Bool) → among (language.heads name) (token_kind t) ≡ b → called (rule depth name (t ∷ ts)) k ≡ (if b then called (rule depth name (t ∷ ts)) k else Err (wrong (t ∷ ts)))
+    by true e = refl
+    by false e = ap (λ w. called w k) (rule-stays depth name (t ∷ ts) e)
 
 pub at-kind : (C : Type 0) (depth : ℕ) (x : Grammar Token) (t : Token) (ts : List Token) (k : Goes Token C)
     → at_kind depth (token_kind t) x (t ∷ ts) k ≡ guided language ahead (rule depth) x (t ∷ ts) k
@@ -250,7 +430,7 @@ at-kind C depth (both x y) t ts k = at-kind C depth x t ts _
 at-kind C depth (either x y) t ts k = if-alike _ _ _ _ _ (at-kind C depth x t ts k) (at-kind C depth y t ts k)
 at-kind C depth (named name x) t ts k = at-kind C depth x t ts _
 at-kind C depth (prefer kinds x) t ts k = if-alike (among kinds (token_kind t)) _ (k tip (t ∷ ts)) _ (k tip (t ∷ ts)) (at-kind C depth x t ts k) refl
-at-kind C depth (starting test x) t ts k = if-alike (test (token_kind t)) _ None _ None (at-kind C depth x t ts k) refl
+at-kind C depth (starting test x) t ts k = if-alike (test (token_kind t)) _ (Err (wrong (t ∷ ts))) _ (Err (wrong (t ∷ ts))) (at-kind C depth x t ts k) refl
 at-kind C depth (call name) t ts k = sym (begun-call depth name t ts k)
 at-kind C depth (line name x) t ts k = refl
 at-kind C depth (fork stop x y) t ts k = refl
@@ -273,7 +453,7 @@ dispatch {A} depth js by x v t ts ns h =
 
 -- by the symbol of the next token
 pub sim-by : {A : Type 0} (depth : ℕ) (js : Symbol → Parser A) (by : Symbol → Tree Token → Build A) (x : Grammar Token) → vacant x ≡ false
-    → ((ns : Nodes) → told (js s.End ([], ns)) ≡ None)
+    → ((ns : Nodes) → told (js s.End ([], ns)) ≡ Err (wrong []))
     → ((t : Token) (ts : List Token) (ns : Nodes) (symbol : Symbol) (broken : Bool) → of_kind t.kind ≡ symbol → t.broken ≡ broken
     → told (js symbol (t ∷ ts, ns)) ≡ at_kind depth (numbered symbol broken) x (t ∷ ts) (built (by symbol) ns))
     → Sim depth (peek >>= js) x (λ tree. by (symbol_in tree) tree)
@@ -286,8 +466,13 @@ sim-by {A} depth js by x v o h = record { holds = holds }
 
 -- what tells the kinds of tokens apart, and whether a part may be empty
 unfoldable pub tables : Unit {0}
-unfolding firsts nullable vacant among kept alike heads entry kinds unbroken_kinds names reserved kind_place marks words contextual
+unfolding firsts nullable vacant among kept alike heads entry kinds unbroken_kinds names reserved kind_place marks words contextual refusal place
 tables = tt
+
+-- where the parser refuses
+unfoldable pub refusals : Unit {0}
+unfolding refusal place
+refusals = tt
 
 -- ---- more steps
 
@@ -297,27 +482,14 @@ assoc (Err e) f g = refl
 
 -- an identifier or a reserved word
 pub any_name-at : {A : Type 0} (symbol : Symbol) (t : Token) (ts : List Token) (ns : Nodes) (f : List ℕ → Parser A) → of_kind t.kind ≡ symbol
-    → told (and_then (any_name (t ∷ ts, ns)) f) ≡ (if is_any_name symbol then told (f (text_of t.kind) (ts, ns)) else None)
-unfolding any_name symbol_named text next
+    → told (and_then (any_name (t ∷ ts, ns)) f) ≡ (if is_any_name symbol then told (f (text_of t.kind) (ts, ns)) else Err (wrong (t ∷ ts)))
+unfolding any_name symbol_named text next refusal place
 any_name-at {A} symbol t ts ns f e =
-    by (is_any_name (of_kind t.kind)) ∙ ap (λ s. if is_any_name s then told (f (text_of t.kind) (ts, ns)) else None) e
+    by (is_any_name (of_kind t.kind)) ∙ ap (λ s. if is_any_name s then told (f (text_of t.kind) (ts, ns)) else Err (wrong (t ∷ ts))) e
   where
-    by : (b : Bool) → told (and_then (if b then take_text (t ∷ ts, ns) else refuse (t ∷ ts, ns)) f) ≡ (if b then told (f (text_of t.kind) (ts, ns)) else None)
+    by : (b : Bool) → told (and_then (if b then take_text (t ∷ ts, ns) else refuse (t ∷ ts, ns)) f) ≡ (if b then told (f (text_of t.kind) (ts, ns)) else Err (wrong (t ∷ ts)))
     by true = refl
     by false = refl
-
--- Where none of its first kinds comes, nothing is read of a part.
-pub not-begun : {C : Type 0} (depth : ℕ) (x : Grammar Token) → InPlace language.rules x → nullable x ≡ false → (ts : List Token) (k : Goes Token C)
-    → starts language (among (firsts language.heads x)) ts ≡ false → guided language ahead (rule depth) x ts k ≡ None
-not-begun {C} depth x i v ts k o = guided-continues language ahead (rule depth) C x ts k ∙ by (guided language ahead (rule depth) x ts done) refl
-  where
-    by : (w : Was Token) → guided language ahead (rule depth) x ts done ≡ w → called w k ≡ None
-    by None e = refl
-    by (Some p) e =
-        let d = guided-finds language ahead (rule depth) (Derives language depth) (rule-finds language ahead depth) x ts p e in
-        let b = begun-surely language (firsts language.heads x) (nullable x) ts p.1 v
-        (spells-begun language (entry [] tails) language-fits (Derives language depth) (derives-begun language (entry [] tails) language-fits depth) x i ts p.1 p.0 d) in
-        absurd (let on = b.0 in cc (o, on))
 
 -- the same, where nothing goes on
 pub step-same : {depth : ℕ} {A : Type 0} {p : Parser A} {x : Grammar Token} {b : Tree Token → Build A} → Sim depth p x b → (ts : List Token) (ns : Nodes) (k : Goes Token (A × Input))
@@ -326,7 +498,7 @@ pub step-same : {depth : ℕ} {A : Type 0} {p : Parser A} {x : Grammar Token} {b
 step-same {depth} {A} {p} {x} {b} sim ts ns k h = sim.holds ts ns ∙ goes-so depth x ts (built b ns) k (λ tree rest e. h tree rest)
 
 -- by the next token, where there may be none of it
-pub dispatch-or : {C : Type 0} (depth : ℕ) (x : Grammar Token) → vacant x ≡ false → (t : Token) (ts : List Token) (k : Symbol → Goes Token C) (m : Option C) (js : Symbol → Option C)
+pub dispatch-or : {C : Type 0} (depth : ℕ) (x : Grammar Token) → vacant x ≡ false → (t : Token) (ts : List Token) (k : Symbol → Goes Token C) (m : Told C) (js : Symbol → Told C)
     → ((symbol : Symbol) (broken : Bool) → of_kind t.kind ≡ symbol → t.broken ≡ broken
     → js symbol ≡ (if among (firsts language.heads x) (numbered symbol broken) then at_kind depth (numbered symbol broken) x (t ∷ ts) (k symbol) else m))
     → js (of_kind t.kind) ≡ (if starts language (among (firsts language.heads x)) (t ∷ ts) then guided language ahead (rule depth) x (t ∷ ts) (λ tree rest. k (symbol_in tree) tree rest) else m)
@@ -355,22 +527,22 @@ name-agrees _ true = refl
 pub step-any_name : {A : Type 0} (ts : List Token) (ns : Nodes) (f : List ℕ → Parser A) (k : Goes Token (A × Input))
     → ((t : Token) (rest : List Token) → told (f (text_of t.kind) (rest, ns)) ≡ k (leaf t) rest)
     → told (and_then (any_name (ts, ns)) f) ≡ taking language (kinds (names ++ reserved)) ts k
-unfolding any_name symbol text next token_kind
+unfolding any_name symbol text next token_kind refusal place
 step-any_name [] ns f k h = refl
-step-any_name {A} (t ∷ ts) ns f k h = by (is_any_name (of_kind t.kind)) ∙ ap (λ b. if b then k (leaf t) ts else None) (any_name-agrees (of_kind t.kind) t.broken)
+step-any_name {A} (t ∷ ts) ns f k h = by (is_any_name (of_kind t.kind)) ∙ ap (λ b. if b then k (leaf t) ts else Err (wrong (t ∷ ts))) (any_name-agrees (of_kind t.kind) t.broken)
   where
-    by : (b : Bool) → told (and_then (if b then take_text (t ∷ ts, ns) else refuse (t ∷ ts, ns)) f) ≡ (if b then k (leaf t) ts else None)
+    by : (b : Bool) → told (and_then (if b then take_text (t ∷ ts, ns) else refuse (t ∷ ts, ns)) f) ≡ (if b then k (leaf t) ts else Err (wrong (t ∷ ts)))
     by true = h t ts
     by false = refl
 
 pub step-name : {A : Type 0} (ts : List Token) (ns : Nodes) (f : List ℕ → Parser A) (k : Goes Token (A × Input))
     → ((t : Token) (rest : List Token) → told (f (text_of t.kind) (rest, ns)) ≡ k (leaf t) rest)
     → told (and_then (a_name (ts, ns)) f) ≡ taking language (kinds names) ts k
-unfolding a_name symbol text next token_kind
+unfolding a_name symbol text next token_kind refusal place
 step-name [] ns f k h = refl
-step-name {A} (t ∷ ts) ns f k h = by (is_name (of_kind t.kind)) ∙ ap (λ b. if b then k (leaf t) ts else None) (name-agrees (of_kind t.kind) t.broken)
+step-name {A} (t ∷ ts) ns f k h = by (is_name (of_kind t.kind)) ∙ ap (λ b. if b then k (leaf t) ts else Err (wrong (t ∷ ts))) (name-agrees (of_kind t.kind) t.broken)
   where
-    by : (b : Bool) → told (and_then (if b then take_text (t ∷ ts, ns) else refuse (t ∷ ts, ns)) f) ≡ (if b then k (leaf t) ts else None)
+    by : (b : Bool) → told (and_then (if b then take_text (t ∷ ts, ns) else refuse (t ∷ ts, ns)) f) ≡ (if b then k (leaf t) ts else Err (wrong (t ∷ ts)))
     by true = h t ts
     by false = refl
 
@@ -384,7 +556,7 @@ step-shown js sim t ts ns f k h = step sim (t ∷ ts) ns f k h
 
 -- by the symbol of the next token, with its place
 pub sim-by-at : {A : Type 0} (depth : ℕ) (js : Symbol → Parser A) (by : ℕ → Symbol → Tree Token → Build A) (x : Grammar Token) → vacant x ≡ false
-    → ((ns : Nodes) → told (js s.End ([], ns)) ≡ None)
+    → ((ns : Nodes) → told (js s.End ([], ns)) ≡ Err (wrong []))
     → ((t : Token) (ts : List Token) (ns : Nodes) (symbol : Symbol) (broken : Bool) → of_kind t.kind ≡ symbol → t.broken ≡ broken
     → told (js symbol (t ∷ ts, ns)) ≡ at_kind depth (numbered symbol broken) x (t ∷ ts) (built (by t.place symbol) ns))
     → Sim depth (peek >>= js) x (λ tree. by (place_in tree) (symbol_in tree) tree)
@@ -395,12 +567,8 @@ sim-by-at {A} depth js by x v o h = record { holds = holds }
     holds [] ns = o ns ∙ sym (none-at_end depth x v (built (λ tree. by (place_in tree) (symbol_in tree) tree) ns))
     holds (t ∷ ts) ns = dispatch depth js (by t.place) x v t ts ns (h t ts ns) ∙ at-first depth (λ at tree. by at (symbol_in tree) tree) x v (t ∷ ts) ns
 
-pub none-behind : {A B : Type 0} (o : Outcome A) (f : A → Parser B) → ((a : A) (i : Input) → told (f a i) ≡ None) → told (and_then o f) ≡ None
-none-behind (Ok p) f h = h p.0 p.1
-none-behind (Err e) f h = refl
-
 pub step-same+ : {depth : ℕ} {A : Type 0} {p : Parser A} {x : Grammar Token} {b : Tree Token → Build A} → Sim depth p x b → (ts : List Token) (ns : Nodes) (k : Goes Token (A × Input))
-    → ((tree : Tree Token) (rest : List Token) → guided language ahead (rule depth) x ts done ≡ Some (tree, rest) → built b ns tree rest ≡ k tree rest)
+    → ((tree : Tree Token) (rest : List Token) → guided language ahead (rule depth) x ts done ≡ Ok (tree, rest) → built b ns tree rest ≡ k tree rest)
     → told (p (ts, ns)) ≡ guided language ahead (rule depth) x ts k
 step-same+ {depth} {A} {p} {x} {b} sim ts ns k h = sim.holds ts ns ∙ goes-so depth x ts (built b ns) k h
 
@@ -410,7 +578,7 @@ sees-starts only [] ns = only.no_end
 sees-starts only (t ∷ ts) ns = only.agrees (of_kind t.kind) t.broken
 
 -- Where nothing of a list was read, nothing was taken.
-pub tip-took : (depth : ℕ) (more : Tree Token → Bool) (x : Grammar Token) (ts rest : List Token) → guided language ahead (rule depth) (many more x) ts done ≡ Some (tip, rest) → ts ≡ rest
+pub tip-took : (depth : ℕ) (more : Tree Token → Bool) (x : Grammar Token) (ts rest : List Token) → guided language ahead (rule depth) (many more x) ts done ≡ Ok (tip, rest) → ts ≡ rest
 unfolding Spells Chain
 tip-took depth more x ts rest e = guided-finds language ahead (rule depth) (Derives language depth) (rule-finds language ahead depth) (many more x) ts (tip, rest) e
 
@@ -428,63 +596,63 @@ starts-neither xs ys (t ∷ ts) e f = among-neither xs ys (token_kind t) e f
 
 -- Behind a list no further one comes.
 pub many-off : (depth : ℕ) (test : ℕ → Bool) (x : Grammar Token) → vacant x ≡ false → (n : ℕ) (ts rest : List Token) (c : Tree Token) → length ts ≤ n
-    → many_of language test (λ tree. true) (guided language ahead (rule depth) x) n ts done ≡ Some (c, rest) → starts language test rest ≡ false
+    → many_of language test (λ tree. true) (guided language ahead (rule depth) x) n ts done ≡ Ok (c, rest) → starts language test rest ≡ false
 unfolding many_of
-many-off depth test x v zero [] rest c few e = ap (λ q. starts language test q.1) (sym (some_same _ _ e))
+many-off depth test x v zero [] rest c few e = ap (λ q. starts language test q.1) (sym (ok_same _ _ e))
 many-off depth test x v zero (t ∷ ts) rest c few e = absurd (omega (arith, few))
 many-off depth test x v (suc n) ts rest c few e = elim (was (starts language test ts) _ _ (c, rest) e) [
   | inl h ↦
       let g = guided language ahead (rule depth) x in
       let con = guided-continues language ahead (rule depth) (Tree Token × List Token) x in
-      let k = called_some (g ts done) _ (c, rest) (sym (con ts _) ∙ h.1) in
-      let f = called_some (many_of language test (λ tree. true) g n (k.0).1 done) _ (c, rest) (sym (many-continues language (Tree Token × List Token) test (λ tree. true) g g con con n (k.0).1 _) ∙ k.2) in
+      let k = called_ok (g ts done) _ (c, rest) (sym (con ts _) ∙ h.1) in
+      let f = called_ok (many_of language test (λ tree. true) g n (k.0).1 done) _ (c, rest) (sym (many-continues language (Tree Token × List Token) test (λ tree. true) g g con con n (k.0).1 _) ∙ k.2) in
       let front = read-front language ahead depth each-takes x v ts (k.0).1 (k.0).0 k.1 in
       let size : length ts ≡ suc (length (front.1)) = ap (λ l. length l) (front.2) in
       let short = front.4 in
-      let same = some_same _ _ f.2 in
+      let same = ok_same _ _ f.2 in
       ap (λ q. starts language test q.1) (sym same) ∙ many-off depth test x v n (k.0).1 (f.0).1 (f.0).0 (omega (arith, few, size, short)) f.1
-  | inr h ↦ ap (λ q. starts language test q.1) (sym (some_same _ _ h.1)) ∙ h.0
+  | inr h ↦ ap (λ q. starts language test q.1) (sym (ok_same _ _ h.1)) ∙ h.0
 ]
 
 pub any-off : (depth : ℕ) (x : Grammar Token) → vacant x ≡ false → (ts : List Token) (f : Tree Token → Tree Token) (q : Tree Token × List Token)
-    → guided language ahead (rule depth) (many (λ tree. true) x) ts (λ c end. Some (f c, end)) ≡ Some q → starts language (among (firsts language.heads x)) q.1 ≡ false
+    → guided language ahead (rule depth) (many (λ tree. true) x) ts (λ c end. Ok (f c, end)) ≡ Ok q → starts language (among (firsts language.heads x)) q.1 ≡ false
 unfolding guided
 any-off depth x v ts f q e =
-    let k = called_some (guided language ahead (rule depth) (many (λ tree. true) x) ts done) _ q (sym (guided-continues language ahead (rule depth) (Tree Token × List Token) (many (λ tree. true) x) ts _) ∙ e) in
-    ap (λ q. starts language (among (firsts language.heads x)) q.1) (sym (some_same _ _ k.2)) ∙ many-off depth (among (firsts language.heads x)) x v (length ts) ts (k.0).1 (k.0).0 (omega arith) k.1
+    let k = called_ok (guided language ahead (rule depth) (many (λ tree. true) x) ts done) _ q (sym (guided-continues language ahead (rule depth) (Tree Token × List Token) (many (λ tree. true) x) ts _) ∙ e) in
+    ap (λ q. starts language (among (firsts language.heads x)) q.1) (sym (ok_same _ _ k.2)) ∙ many-off depth (among (firsts language.heads x)) x v (length ts) ts (k.0).1 (k.0).0 (omega arith) k.1
 
 -- Behind `new` and its Member no further part of it comes, but arguments.
 abbrev pub open_kinds : List ℕ
 open_kinds = kinds (mark (codes "(") ∷ [])
 
-pub member-off : (depth : ℕ) → ((ts rest : List Token) (a : Tree Token) → rule depth 13 ts ≡ Some (a, rest) → starts language (among open_kinds) rest ≡ false
+pub member-off : (depth : ℕ) → ((ts rest : List Token) (a : Tree Token) → rule depth 13 ts ≡ Ok (a, rest) → starts language (among open_kinds) rest ≡ false
     → starts language (among (firsts language.heads member_suffix)) rest ≡ false)
-    → (ts : List Token) (q : Tree Token × List Token) → guided language ahead (rule depth) member_rule ts done ≡ Some q → starts language (among open_kinds) q.1 ≡ false
+    → (ts : List Token) (q : Tree Token × List Token) → guided language ahead (rule depth) member_rule ts done ≡ Ok q → starts language (among open_kinds) q.1 ≡ false
     → starts language (among (firsts language.heads member_suffix)) q.1 ≡ false
 unfolding guided member_rule vacant
 member-off depth ih ts q e o = elim (was (starts language (among (firsts language.heads (both (call 13) (prefer open_kinds (both (call 14) (any member_suffix)))))) ts) _ _ q e) [
   | inl h ↦
-      let k = called_some (rule depth 13 ts) _ q h.1 in
+      let k = called_ok (rule depth 13 ts) _ q h.1 in
       elim (was (starts language (among open_kinds) (k.0).1) _ _ q k.2) [
-        | inl m ↦ let f = called_some (rule depth 14 (k.0).1) _ q m.1 in any-off depth member_suffix refl (f.0).1 (λ c. pair (k.0).0 (pair (f.0).0 c)) q f.2
+        | inl m ↦ let f = called_ok (rule depth 14 (k.0).1) _ q m.1 in any-off depth member_suffix refl (f.0).1 (λ c. pair (k.0).0 (pair (f.0).0 c)) q f.2
         | inr m ↦
-            let same = some_same _ _ m.1 in
+            let same = ok_same _ _ m.1 in
             ap (λ q. starts language (among (firsts language.heads member_suffix)) q.1) (sym same) ∙ ih ts (k.0).1 (k.0).0 k.1 m.0
       ]
   | inr h ↦
-      let k = called_some (guided language ahead (rule depth) primary_rule ts done) _ q (sym (guided-continues language ahead (rule depth) (Tree Token × List Token) primary_rule ts _) ∙ h.1) in
+      let k = called_ok (guided language ahead (rule depth) primary_rule ts done) _ q (sym (guided-continues language ahead (rule depth) (Tree Token × List Token) primary_rule ts _) ∙ h.1) in
       any-off depth member_suffix refl (k.0).1 (λ c. pair (k.0).0 c) q k.2
 ]
 
-pub behind-new : (depth : ℕ) (ts rest : List Token) (a : Tree Token) → rule depth 13 ts ≡ Some (a, rest) → starts language (among open_kinds) rest ≡ false
+pub behind-new : (depth : ℕ) (ts rest : List Token) (a : Tree Token) → rule depth 13 ts ≡ Ok (a, rest) → starts language (among open_kinds) rest ≡ false
     → starts language (among (firsts language.heads member_suffix)) rest ≡ false
 unfolding rule_at guided rules entry new_rule
 behind-new zero ts rest a e o = absurd (cc (e))
 behind-new (suc depth) [] rest a e o = absurd (cc (e))
 behind-new (suc depth) (t ∷ ts) rest a e o = elim (was (among (kinds (word (codes "new") ∷ [])) (token_kind t)) _ _ (a, rest) e) [
   | inl h ↦
-      let k = called_some (guided language ahead (rule depth) member_rule ts done) _ (a, rest) (sym (guided-continues language ahead (rule depth) (Tree Token × List Token) member_rule ts _) ∙ h.1) in
-      let same = some_same _ _ k.2 in
+      let k = called_ok (guided language ahead (rule depth) member_rule ts done) _ (a, rest) (sym (guided-continues language ahead (rule depth) (Tree Token × List Token) member_rule ts _) ∙ h.1) in
+      let same = ok_same _ _ k.2 in
       let off : starts language (among open_kinds) (k.0).1 ≡ false = ap (λ q. starts language (among open_kinds) q.1) same ∙ o in
       ap (λ q. starts language (among (firsts language.heads member_suffix)) q.1) (sym same) ∙ member-off depth (behind-new depth) ts k.0 k.1 off
   | inr h ↦ absurd (cc (h.1))
@@ -492,7 +660,7 @@ behind-new (suc depth) (t ∷ ts) rest a e o = elim (was (among (kinds (word (co
 
 -- the first token of a pair
 pub pair-front : (depth : ℕ) (x : Grammar Token) → vacant x ≡ false → (t : Token) (ts rest : List Token) (a b : Tree Token)
-    → guided language ahead (rule depth) x (t ∷ ts) done ≡ Some (a, rest) → (symbol_in (pair a b) ≡ of_kind t.kind) × (place_in (pair a b) ≡ t.place)
+    → guided language ahead (rule depth) x (t ∷ ts) done ≡ Ok (a, rest) → (symbol_in (pair a b) ≡ of_kind t.kind) × (place_in (pair a b) ≡ t.place)
 unfolding first_token
 pair-front depth x v t ts rest a b e =
     let f = read-front language ahead depth each-takes x v (t ∷ ts) rest a e in
@@ -502,23 +670,23 @@ pair-front depth x v t ts rest a b e =
 pub step-expect+ : {B : Type 0} {x : Symbol} {kinds : List ℕ} → Only x kinds → (t : Token) (ts : List Token) (ns : Nodes) (f : Unit {0} → Parser B) (k : Goes Token (B × Input))
     → told (f tt (ts, ns)) ≡ k (leaf t) ts
     → told (and_then (expect x (t ∷ ts, ns)) f) ≡ taking language kinds (t ∷ ts) k
-unfolding expect sees symbol next token_kind
+unfolding expect sees symbol next token_kind refusal place
 step-expect+ {B} {x} {kinds} only t ts ns f k h =
     ap (λ b. told (expected b (t ∷ ts, ns) f)) (only.agrees (of_kind t.kind) t.broken) ∙ by (among kinds (token_kind t))
   where
-    by : (b : Bool) → told (expected b (t ∷ ts, ns) f) ≡ (if b then k (leaf t) ts else None)
+    by : (b : Bool) → told (expected b (t ∷ ts, ns) f) ≡ (if b then k (leaf t) ts else Err (wrong (t ∷ ts)))
     by true = h
     by false = refl
 
-pub expect-end : {B : Type 0} {x : Symbol} {kinds : List ℕ} → Only x kinds → (ns : Nodes) (f : Unit {0} → Parser B) → told (and_then (expect x ([], ns)) f) ≡ None
-unfolding expect sees symbol
+pub expect-end : {B : Type 0} {x : Symbol} {kinds : List ℕ} → Only x kinds → (ns : Nodes) (f : Unit {0} → Parser B) → told (and_then (expect x ([], ns)) f) ≡ Err (wrong [])
+unfolding expect sees symbol refusal place
 expect-end only ns f = ap (λ b. told (expected b ([], ns) f)) only.no_end
 
 -- a token that has to come
 pub eat-need : {A : Type 0} {x : Symbol} {kinds : List ℕ} (depth : ℕ) → Only x kinds → (ts : List Token) (ns : Nodes) (g : Bool → Input → Outcome A) (y : Grammar Token)
     (k : Goes Token (A × Input))
     → ((t : Token) (rest : List Token) → told (g true (rest, ns)) ≡ guided language ahead (rule depth) y rest (λ b end. k (pair (leaf t) b) end))
-    → told (g false (ts, ns)) ≡ None
+    → told (g false (ts, ns)) ≡ Err (wrong ts)
     → told (g (sees x (ts, ns)) (after x (ts, ns))) ≡ guided language ahead (rule depth) (both (token kinds) y) ts k
 unfolding guided sees symbol after next token_kind
 eat-need {A} {x} {kinds} depth only [] ns g y k h o = ap (λ b. told (g b (if b then ([], ns) else ([], ns)))) only.no_end ∙ o
@@ -526,7 +694,7 @@ eat-need {A} {x} {kinds} depth only (t ∷ ts) ns g y k h o =
     ap (λ b. told (g b (if b then (ts, ns) else (t ∷ ts, ns)))) (only.agrees (of_kind t.kind) t.broken) ∙ by (among kinds (token_kind t))
   where
     by : (b : Bool) → told (g b (if b then (ts, ns) else (t ∷ ts, ns)))
-        ≡ (if b then guided language ahead (rule depth) y ts (λ b end. k (pair (leaf t) b) end) else None)
+        ≡ (if b then guided language ahead (rule depth) y ts (λ b end. k (pair (leaf t) b) end) else Err (wrong (t ∷ ts)))
     by true = h t ts
     by false = o
 
@@ -545,12 +713,12 @@ arrow-agrees _ true = refl
 pub step-arrow : {B : Type 0} (ts : List Token) (ns : Nodes) (f : Unit {0} → Parser B) (k : Goes Token (B × Input))
     → ((t : Token) (rest : List Token) → told (f tt (rest, ns)) ≡ k (leaf t) rest)
     → told (and_then (arrow (ts, ns)) f) ≡ taking language arrow_kinds ts k
-unfolding arrow is_arrow next token_kind
+unfolding arrow is_arrow next token_kind refusal place
 step-arrow [] ns f k h = refl
 step-arrow {B} (t ∷ ts) ns f k h =
     ap (λ b. told (expected b (t ∷ ts, ns) f)) (arrow-agrees (of_kind t.kind) t.broken) ∙ by (among arrow_kinds (token_kind t))
   where
-    by : (b : Bool) → told (expected b (t ∷ ts, ns) f) ≡ (if b then k (leaf t) ts else None)
+    by : (b : Bool) → told (expected b (t ∷ ts, ns) f) ≡ (if b then k (leaf t) ts else Err (wrong (t ∷ ts)))
     by true = h t ts
     by false = refl
 
@@ -566,7 +734,7 @@ eat-prefer {A} {x} {kinds} depth only (t ∷ ts) ns g y k h o =
     ap (λ b. told (g b (if b then (ts, ns) else (t ∷ ts, ns)))) (only.agrees (of_kind t.kind) t.broken) ∙ by (among kinds (token_kind t))
   where
     by : (b : Bool) → told (g b (if b then (ts, ns) else (t ∷ ts, ns)))
-        ≡ (if b then (if b then guided language ahead (rule depth) y ts (λ b end. k (pair (leaf t) b) end) else None) else k tip (t ∷ ts))
+        ≡ (if b then (if b then guided language ahead (rule depth) y ts (λ b end. k (pair (leaf t) b) end) else Err (wrong (t ∷ ts))) else k tip (t ∷ ts))
     by true = h t ts
     by false = o
 
@@ -574,7 +742,7 @@ eat-prefer {A} {x} {kinds} depth only (t ∷ ts) ns g y k h o =
 pub eat-need+ : {A : Type 0} {x : Symbol} {kinds : List ℕ} (depth : ℕ) → Only x kinds → (ts : List Token) (ns : Nodes) (g : Bool → Input → Outcome A) (y : Grammar Token)
     (k : Goes Token (A × Input))
     → ((t : Token) (rest : List Token) → same (of_kind t.kind) x ≡ true → told (g true (rest, ns)) ≡ guided language ahead (rule depth) y rest (λ b end. k (pair (leaf t) b) end))
-    → told (g false (ts, ns)) ≡ None
+    → told (g false (ts, ns)) ≡ Err (wrong ts)
     → told (g (sees x (ts, ns)) (after x (ts, ns))) ≡ guided language ahead (rule depth) (both (token kinds) y) ts k
 unfolding guided sees symbol after next token_kind
 eat-need+ {A} {x} {kinds} depth only [] ns g y k h o = ap (λ b. told (g b (if b then ([], ns) else ([], ns)))) only.no_end ∙ o
@@ -582,7 +750,7 @@ eat-need+ {A} {x} {kinds} depth only (t ∷ ts) ns g y k h o =
     ap (λ b. told (g b (if b then (ts, ns) else (t ∷ ts, ns)))) (only.agrees (of_kind t.kind) t.broken) ∙ by (among kinds (token_kind t)) refl
   where
     by : (b : Bool) → among kinds (token_kind t) ≡ b → told (g b (if b then (ts, ns) else (t ∷ ts, ns)))
-        ≡ (if b then guided language ahead (rule depth) y ts (λ b end. k (pair (leaf t) b) end) else None)
+        ≡ (if b then guided language ahead (rule depth) y ts (λ b end. k (pair (leaf t) b) end) else Err (wrong (t ∷ ts)))
     by true e = h t ts (only.agrees (of_kind t.kind) t.broken ∙ e)
     by false e = o
 

@@ -17,7 +17,7 @@ use Rattle.js_parse.specs.Parsing.{parsed, shown}
 use Rattle.parse_laws.specs.Agreement.{language, script_nodes, AreItems}
 use Rattle.parse_laws.specs.Trees as mk
 use Rattle.parse_laws.specs.Trees.{parts_at, Build}
-use Rattle.parse_laws.proofs.Guided.{guided, Was, done, called, some_same, guided-continues}
+use Rattle.parse_laws.proofs.Guided.{guided, Was, done, called, ok_same, guided-continues, Told}
 use Rattle.parse_laws.proofs.Sound.{guided-finds, rule-finds}
 use Rattle.parse_laws.proofs.Walk.{ahead, rule, told, built}
 use Rattle.parse_laws.proofs.Nested.{parted}
@@ -32,10 +32,10 @@ pub ok_first : {A B : Type 0} (o : Outcome A) (f : A → Parser B) (v : B × Inp
 ok_first (Ok p) f v e = (p, refl, e)
 ok_first (Err c) f v e = absurd (cc (e))
 
-pub told-read : {A : Type 0} (w : Was Token) (b : Tree Token → Build A) (ns : Nodes) (p : A × Input) → Some p ≡ called w (built b ns)
-    → (q : Tree Token × List Token) × (w ≡ Some q) × (p ≡ ((b q.0 ns).0, (q.1, (b q.0 ns).1)))
-told-read None b ns p e = absurd (cc (e))
-told-read (Some q) b ns p e = (q, refl, some_same _ _ e)
+pub told-read : {A : Type 0} (w : Was Token) (b : Tree Token → Build A) (ns : Nodes) (p : A × Input) → ◌≡◌ {A = Told (A × Input)} (Ok p) (called w (built b ns))
+    → (q : Tree Token × List Token) × (w ≡ Ok q) × (p ≡ ((b q.0 ns).0, (q.1, (b q.0 ns).1)))
+told-read (Err d) b ns p e = absurd (cc (e))
+told-read (Ok q) b ns p e = (q, refl, ok_same _ _ e)
 
 module _ (depth : ℕ) where
   abbrev pub Items : List Token → List Token → Tree Token → Type 0

@@ -1,5 +1,5 @@
 -- The regions of the owners, among the slots of all.
-use Rattle.std.proofs.Common.{◌≡◌, ℕ, zero, suc, ◌+◌, ◌<◌, true, false, List, [], ◌∷◌, ◌++◌, length, get_or, set, Some, None, Option, refl, sym, ap, ◌∙◌, subst, arith, replicate, remove, slice_get, position, nat_eq, if◌then◌else◌, length-append, cond, sum_by}
+use Rattle.std.proofs.Common.{◌≡◌, ℕ, zero, suc, ◌+◌, ◌<◌, ◌≤◌, true, false, List, [], ◌∷◌, ◌++◌, length, get_or, set, Some, None, Option, refl, sym, ap, ◌∙◌, subst, arith, replicate, remove, slice_get, position, nat_eq, if◌then◌else◌, length-append, cond, sum_by}
 use Rattle.std.proofs.lemmas.Bool.Decides.{nat_tests}
 use Rattle.std.proofs.lemmas.Iterator.Adapters.{position_from-zero}
 use Rattle.std.proofs.lemmas.List.Sums.{sum_by-cons}
@@ -7,9 +7,9 @@ use Rattle.std.specs.List.{position_from}
 use Rattle.cell_chunks.specs.Slots.{IsFilled}
 use Rattle.world_heap.specs.declared.store.Region.{Region}
 use Rattle.world_heap.specs.Maps.{keys, find, put, without, stands, Stands}
-use Rattle.world_heap.specs.Shelf.{IsAmong, Apart}
+use Rattle.world_heap.specs.Shelf.{values_of, IsAmong, Apart}
 use Rattle.world_heap.specs.Stored.{times, all_own, owners, maps, gathered, IsAt, IsDistinct, IsStored}
-use Rattle.world_heap.proofs.Slots.{times-append, AreFilled, keys-gathered, find-gathered, put-gathered, gathered-set, gathered-more, are_filled, held_filled, stands_times, times_absent}
+use Rattle.world_heap.proofs.Slots.{times-append, AreFilled, keys-gathered, find-gathered, put-gathered, gathered-set, gathered-more, are_filled, held_filled, held_bound, stands_times, times_absent}
 
 pub at_within : (rs : List Region) (o at : ℕ) → IsAt rs o at → at < length rs
 at_within [] o at h = absurd h
@@ -251,3 +251,26 @@ module _ {T : Type 0} where
           length-keys : (cs : List (ℕ × T)) → length (keys cs) ≡ length cs
           length-keys [] = refl
           length-keys (c ∷ cs) = ap suc (length-keys cs)
+
+-- where each number stands at most once, no number stands twice
+pub distinct_once : (own : List ℕ) → ((k : ℕ) → times k own ≤ 1) → IsDistinct own
+distinct_once [] once = tt
+distinct_once (x ∷ own) once =
+    let same : nat_eq x x ≡ true = grind (arith, nat_tests) in
+    let here : (if nat_eq x x then 1 else 0) + times x own ≤ 1 = once x in
+    (times_absent own x (omega (arith, rw same at here)), distinct_once own (λ k. omega (arith, once k)))
+
+-- no owner has a location twice
+pub distinct_own : {T : Type 0} (slots : List (Option T)) (rs : List Region) (o : ℕ) → AllFilled slots rs → ((k : ℕ) → times k (all_own rs) ≤ 1) → IsDistinct (keys (values_of (maps slots rs) o))
+unfolding AllFilled
+distinct_own slots [] o f once = tt
+distinct_own slots (r ∷ rs) o f once =
+    let own : IsDistinct r.own = distinct_once r.own (λ k. omega (arith, times-append k r.own (all_own rs), once k)) in
+    let filled = are_filled slots r.own (λ k t. f k (omega (arith, times-append k r.own (all_own rs), t))) in
+    elim (nat_eq r.owner o) as (λ b. IsDistinct (keys (Rattle.std.specs.Prelude.unwrap_or (if b then Some (gathered slots r.own) else find nat_eq (maps slots rs) o) []))) [
+      | true ↦ subst IsDistinct (sym (keys-gathered slots r.own filled)) own
+      | false ↦ distinct_own slots rs o (λ k t. f k (omega (arith, times-append k r.own (all_own rs), t))) (λ k. omega (arith, times-append k r.own (all_own rs), once k))
+    ]
+
+pub stored_distinct : {T : Type 0} (slots : List (Option T)) (rs : List Region) (o : ℕ) → IsStored slots rs → IsDistinct (keys (values_of (maps slots rs) o))
+stored_distinct slots rs o h = distinct_own slots rs o (stored_filled slots rs h) (λ k. held_bound slots (all_own rs) k h.held)

@@ -1,5 +1,5 @@
 -- How a store keeps the values of its owners: in slots, with a list of the slots of each owner. No public clause cites
--- this module.
+-- this module but for `IsDistinct`.
 use Rattle.std.specs.Prelude.{◌≡◌, ℕ, zero, suc, ◌+◌, ◌≤◌, List, [], ◌∷◌, ◌++◌, length, Option, Some, None, slice_index_or, nat_eq, false, if◌then◌else◌}
 use Rattle.cell_chunks.specs.Slots.{vacancies}
 use Rattle.world_heap.specs.declared.store.Region.{Region}

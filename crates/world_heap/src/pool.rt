@@ -1,5 +1,8 @@
 //! The cells of all worlds in one pool, and a heap away from it.
-ghost use Rattle.std.specs.Prelude.{◌≡◌, [], length, sum_by};
+ghost use Rattle.std.specs.Prelude.{◌≡◌, ℕ, [], length, sum_by};
+ghost use Rattle.world_heap.specs.Maps.{keys};
+ghost use Rattle.world_heap.specs.Shelf.{values_of};
+ghost use Rattle.world_heap.specs.Stored.{IsDistinct};
 ghost use Rattle.world_heap.specs.Views.{PoolView, SeatView};
 
 use crate::cell::Cell;
@@ -42,6 +45,13 @@ impl Pool {
         ensures { result ≡ sum_by (λ m. length m.1) self.now.maps }
     {
         self.store.filled() as u64
+    }
+
+    /// No two cells of a heap have one location: a law. It does nothing.
+    pub fn distinct(&self)
+        ensures { (owner : ℕ) → IsDistinct (keys (values_of self.now.maps owner)) }
+    {
+        self.store.distinct();
     }
 }
 

@@ -3,7 +3,7 @@ ghost use Rattle.std.specs.Prelude.{◌≡◌, ◌↔◌, IsTrue, ℕ, ◌+◌, 
 ghost use Rattle.cell_chunks.specs.Slots.{vacancies};
 ghost use Rattle.world_heap.specs.Maps.{keys, find, put, without, stands, Stands};
 ghost use Rattle.world_heap.specs.Shelf.{values_of, IsAmong, Apart};
-ghost use Rattle.world_heap.specs.Stored.{owners, IsAt};
+ghost use Rattle.world_heap.specs.Stored.{owners, IsAt, IsDistinct};
 
 use cell_chunks::{Chunks, Slot};
 use sqlite_items::Items;
@@ -200,6 +200,13 @@ impl<T: Drop> Store<T> {
             Some(place) => self.regions[place].own.get(at).copied(),
             None => None,
         }
+    }
+
+    /// No owner has a location twice: a law. It does nothing.
+    pub fn distinct(&self)
+        ensures { (owner : ℕ) → IsDistinct (keys (values_of self.now owner)) }
+    {
+        let _ = &self.chunks;
     }
 
     /// Takes an owner away with all its values. The cost is linear in these.

@@ -1,0 +1,6 @@
+//! Laws of what a world makes alone of its deliveries.
+#![tactic(auto)]
+
+mod laws;
+
+pub use laws::{one_size, yielding};

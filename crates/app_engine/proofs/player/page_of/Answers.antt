@@ -1,0 +1,7 @@
+use Rattle.std.proofs.Common.{refl}
+use Rattle.app_engine.specs.Log.{page_name}
+use Rattle.app_engine.proofs.Parts.{same_parts}
+use Rattle.app_engine.proofs.player.page_of.Goals as goal
+
+pub returns : goal.returns
+returns c = same_parts _ (page_name c.args.number) refl refl refl

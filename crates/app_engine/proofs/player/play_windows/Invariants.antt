@@ -1,0 +1,10 @@
+use Rattle.std.proofs.Common.{◌≡◌, ◌≤◌, ◌+◌, drop}
+use Rattle.app_engine.proofs.Pieces.{WindowsWritten}
+use Rattle.app_engine.proofs.player.play_windows.Given as goal
+
+abbrev pub invariant-windows : goal.invariant-windows
+invariant-windows g l = record {
+  written : WindowsWritten l.limits l.windows (drop l.window-index l.windows) l.number (g.K.Sink.taken l.initial.sink) (g.K.Sink.taken l.sink);
+  number : l.number ≡ l.window-index + 1;
+  later : g.K.Sink.faults l.initial.sink ≤ g.K.Sink.faults l.sink;
+}

@@ -1,0 +1,4 @@
+pub mod Log
+pub mod Laws
+pub mod Machines
+pub mod Applications

@@ -1,0 +1,6 @@
+pub mod Supplying
+pub mod Coming
+pub mod Pools
+pub mod Awaiting
+pub mod Beginning
+pub mod Resuming
