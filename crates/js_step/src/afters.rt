@@ -4,9 +4,8 @@ ghost use Rattle.js_names.specs.Patterns.{nodes_of};
 ghost use Rattle.js_machine.specs.Does.{Does, weight};
 ghost use Rattle.js_machine.specs.Frames.{after_rest};
 
-use crate::nodes::discard;
 use js_calls::after_constructed;
-use js_machine::{AfterFrame, Frame, Next, State};
+use js_machine::{AfterFrame, Frame, Next, State, discard};
 use js_patterns::after_property_read;
 use js_semantics::{Outcome, StepFault};
 use js_step_access::{after_assign_by, after_assign_instance, after_instance, after_update};

@@ -7,9 +7,8 @@ ghost use Rattle.js_machine.specs.Does.{Does, weight};
 ghost use Rattle.js_machine.specs.Frames.{rest};
 
 use crate::afters::after_frame;
-use crate::nodes::discard;
 use crate::values::value_frame;
-use js_machine::{AfterFrame, Frame, Next, State, ValueFrame};
+use js_machine::{AfterFrame, Frame, Next, State, ValueFrame, discard};
 use js_semantics::{Outcome, StepFault};
 use js_step_stmt::{
     Walk, at_last, caught, do_body_end, for_body_end, of_body_end, replaced_by, script_end,

@@ -7,14 +7,11 @@ ghost use Rattle.js_machine.specs.Does.{Does};
 
 use crate::operands::row_operand;
 use crate::operators::row_operator;
-use js_machine::{Next, State, done, node_at};
+use js_machine::{Next, State, discard, done, node_at};
 use js_semantics::{Scope, StepFault};
 use js_step_block::row_block;
 use js_step_stmt::row_statement;
 use js_tree::{Node, NodeId, Tree};
-
-/// Lets a value go. A generic function keeps the cases of its drop out of its callers' proofs.
-pub(crate) fn discard<T: Drop>(_value: T) {}
 
 // The row of a node that stands in the tree.
 #[tactic(auto, unfolding(js_semantics::specs::Rows::row_of))]

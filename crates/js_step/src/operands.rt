@@ -5,7 +5,6 @@ ghost use Rattle.js_semantics.specs.Rows.{row_of};
 ghost use Rattle.js_machine.specs.Does.{Does};
 ghost use Rattle.js_step.specs.Kinds.{is_operand};
 
-use crate::nodes::discard;
 use js_machine::{Next, State};
 use js_semantics::{Scope, StepFault};
 use js_step_access::row_name;
