@@ -27,4 +27,8 @@ pub mod Kindred
 pub mod Followed
 pub mod Scripts
 pub mod Texts
+pub mod Places
+pub mod Covered
+pub mod Lockstep
+pub mod Lists
 pub mod Rows
