@@ -31,4 +31,5 @@ pub mod Places
 pub mod Covered
 pub mod Lockstep
 pub mod Lists
+pub mod Readings
 pub mod Rows
