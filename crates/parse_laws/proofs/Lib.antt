@@ -32,4 +32,5 @@ pub mod Covered
 pub mod Lockstep
 pub mod Lists
 pub mod Readings
+pub mod Headings
 pub mod Rows
