@@ -33,4 +33,7 @@ pub mod Lockstep
 pub mod Lists
 pub mod Readings
 pub mod Headings
+pub mod Depths
+pub mod Merged
+pub mod Agreed
 pub mod Rows
