@@ -44,11 +44,11 @@ agrees-if h false ts x y u v e f = f
 
 -- what goes on behind both
 pub agrees-then : (h k : Bool) (ts : List Token) (g : Was Token) (r : Answer Token) (f : Goes Token Read) (c : Read → Answer Token) → Agrees k ts g r
-    → ((p : Read) → Within ts p.1 → Agrees h ts (f p.0 p.1) (c p))
+    → ((p : Read) → g ≡ Ok p → Within ts p.1 → Agrees h ts (f p.0 p.1) (c p))
     → ((p : Read) → k ≡ true → Within ts p.1 → starts language (among arrow_kinds) p.1 ≡ true → (f p.0 p.1 ≡ Err (wrong p.1)) ⊎ ((h ≡ true) × (a : Tree Token) × (f p.0 p.1 ≡ Ok (a, p.1))))
     → Agrees h ts (called g f) (r >>= c)
 agrees-then h k ts g r f c e s o = elim e [
-  | inl d ↦ subst (λ u. Agrees h ts (called u f) (r >>= c)) (sym d.1) (subst (λ u. Agrees h ts (f (d.0).0 (d.0).1) (u >>= c)) (sym d.2) (s d.0 d.3))
+  | inl d ↦ subst (λ u. Agrees h ts (called u f) (r >>= c)) (sym d.1) (subst (λ u. Agrees h ts (f (d.0).0 (d.0).1) (u >>= c)) (sym d.2) (s d.0 d.1 d.3))
   | inr e ↦ elim e [
     | inl d ↦
         let g' : called g f ≡ f (d.1).0 (d.1).1 = ap (λ u. called u f) d.2 in

@@ -36,4 +36,5 @@ pub mod Headings
 pub mod Depths
 pub mod Merged
 pub mod Agreed
+pub mod Faults
 pub mod Rows
