@@ -199,9 +199,9 @@ pub called-done_is : (w : Was Token) → called w done ≡ w
 called-done_is (Ok q) = refl
 called-done_is (Err e) = refl
 
-pub if-implied : (b c : Bool) (xs : List ℕ) → if-hangs b xs ≡ true → b ≡ true → apart xs arrow_kinds ≡ true
-if-implied true c xs e h = e
-if-implied false c xs e h = absurd (cc (h))
+pub if-implied : (b : Bool) (xs : List ℕ) → if-hangs b xs ≡ true → b ≡ true → apart xs arrow_kinds ≡ true
+if-implied true xs e h = e
+if-implied false xs e h = absurd (cc (h))
 
 pub one-of : (a b : Bool) → a ≡ true → (a || b) ≡ true
 one-of a b e = or_left a b e
@@ -211,6 +211,15 @@ pub many-none : (test : ℕ → Bool) (more : Tree Token → Bool) (g : List Tok
 unfolding many_of
 many-none test more g zero ts k o = refl
 many-none test more g (suc n) ts k o = chosen-false (starts language test ts) _ _ o
+
+pub apart-both : (xs ys zs : List ℕ) → apart (xs ++ ys) zs ≡ true → (apart xs zs ≡ true) × (apart ys zs ≡ true)
+unfolding apart
+apart-both [] ys zs e = (refl, e)
+apart-both (x ∷ xs) ys zs e = by (apart-both xs ys zs) (among zs x) refl e
+  where
+    by : (apart (xs ++ ys) zs ≡ true → (apart xs zs ≡ true) × (apart ys zs ≡ true)) → (b : Bool) → among zs x ≡ b → (if b then false else apart (xs ++ ys) zs) ≡ true → ((if b then false else apart xs zs) ≡ true) × (apart ys zs ≡ true)
+    by ih true q e = absurd (cc (e))
+    by ih false q e = ih e
 
 module _ (limit depth : ℕ) (h : (n : ℕ) → (n == script) ≡ false → (ts : List Token) → Fine ts → length ts < limit → Agrees (hanging n) ts (rule depth n ts) (read language limit depth n ts)) where
   abbrev pub r : ℕ → List Token → Answer Token
@@ -341,9 +350,191 @@ module _ (limit depth : ℕ) (h : (n : ℕ) → (n == script) ≡ false → (ts 
       by true k = inl ((leaf t, ts), refl, refl, (t ∷ [], refl, behind-other kinds t ts v k f.1))
       by false k = inr (inr (false, false, t ∷ ts, refl, refl, within-self (t ∷ ts) f.1))
 
-  pub fork-agrees : (b : Bool) → So (line (form b 42) (cond_rule b)) → So (both (either parameters identifier) (arrow_tail b))
-      → told language.heads parentheses (fork arrow_kinds (line (form b 42) (cond_rule b)) (both (either parameters identifier) (arrow_tail b))) ≡ true
-      → InPlace language.rules (fork arrow_kinds (line (form b 42) (cond_rule b)) (both (either parameters identifier) (arrow_tail b)))
-      → So (fork arrow_kinds (line (form b 42) (cond_rule b)) (both (either parameters identifier) (arrow_tail b)))
-  unfolding guided read_at hangs told InPlace
-  fork-agrees b s t o i ts f small = ?
+  abbrev pub x_of : Bool → Grammar Token
+  x_of b = line (form b 42) (cond_rule b)
+
+  abbrev pub y_of : Bool → Grammar Token
+  y_of b = both (either parameters identifier) (arrow_tail b)
+
+  pub wrong-told : (k : Bool) (ts : List Token) (g : Was Token) (v : Answer Token) → Fine ts → Agrees k ts g v → g ≡ Err (wrong ts) → v ≡ Err (false, ts)
+  wrong-told k ts g v f e n = elim e [
+    | inl d ↦ not-both (wrong ts) d.0 g n d.1
+    | inr e ↦ elim e [
+      | inl d ↦ not-both (wrong ts) d.1 g n d.2
+      | inr d ↦
+          let m = wrong-is d.0 d.1 d.2 ts (err-same (fault_at d.0 d.1 d.2) (wrong ts) g d.3 n) in
+          let same : d.2 ≡ ts = ends-same ts d.2 ts f.0 d.5 (within-self ts f.1) m.2 in
+          d.4 ∙ ap (λ b. Err (b, d.2)) m.0 ∙ ap (λ l. Err (false, l)) same
+    ]
+  ]
+
+  pub covered : (b : Bool) → covers (language.heads (form b 42)) (firsts {A = Token} language.heads (y_of b)) ≡ true
+  unfolding tables covers
+  covered true = refl
+  covered false = refl
+
+  module _ (b : Bool) (s : So (x_of b)) (t : So (y_of b)) (leads₁ : leads language.heads parentheses arrow_kinds (x_of b) ≡ true) (alone₁ : alone language.heads parentheses arrow_kinds (x_of b) ≡ true)
+      (before₁ : before_stop language.heads parentheses arrow_kinds (y_of b) ≡ true) (i : InPlace language.rules (x_of b)) (j : InPlace language.rules (y_of b))
+      (ts : List Token) (f : Fine ts) (small : length ts < limit) where
+    abbrev pub gx : Was Token
+    gx = guided language ahead (rule depth) (x_of b) ts done
+
+    abbrev pub gy : Was Token
+    gy = guided language ahead (rule depth) (y_of b) ts done
+
+    abbrev pub rx : Answer Token
+    rx = refused language arrow_kinds (read_at language limit r (x_of b) ts)
+
+    abbrev pub ry : Answer Token
+    ry = read_at language limit r (y_of b) ts
+
+    pub first-off : (p : Read) → gx ≡ Ok p → starts language (among arrow_kinds) p.1 ≡ false → ahead ts ≡ false
+    first-off p e o = first-ahead depth (x_of b) i leads₁ alone₁ ts p.1 p.0 (guided-finds language ahead (rule depth) (Derives language depth) (rule-finds language ahead depth) (x_of b) ts p e) o
+
+    pub second-on : (p : Read) → gy ≡ Ok p → ahead ts ≡ true
+    second-on p e = second-ahead depth (y_of b) j before₁ ts p.1 p.0 (guided-finds language ahead (rule depth) (Derives language depth) (rule-finds language ahead depth) (y_of b) ts p e)
+
+    pub forked-here : Forked ts gx gy
+    unfolding guided
+    forked-here = each-forked depth b ts f
+
+    pub begun-agrees : Agrees true ts (forked (opens_next ts) (ahead ts) gx gy) (furthest rx ry)
+    unfolding guided
+    begun-agrees = elim (is_or_not (ahead ts)) [
+      | inl a ↦ subst (λ c. Agrees true ts (forked (opens_next ts) c gx gy) (furthest rx ry)) (sym a) (elim (refused-so (hangs (x_of b)) ts gx (read_at language limit r (x_of b) ts) (s ts f small)) [
+        | inl k ↦ absurd (let off = first-off k.0 k.1 k.3 in cc (off, a))
+        | inr g ↦ elim g [
+          | inl k ↦ fork-ahead (opens_next ts) ts gx gy rx ry (hangs (y_of b)) f forked-here (λ c. (no-paren depth b ts f c).0 a) false false (k.0).1 (inr (k.0, k.1, refl, refl, refl)) k.2 k.4 (t ts f small)
+          | inr k ↦ fork-ahead (opens_next ts) ts gx gy rx ry (hangs (y_of b)) f forked-here (λ c. (no-paren depth b ts f c).0 a) k.0 k.1 k.2 (inl k.3) k.4 k.5 (t ts f small)
+        ]
+      ])
+      | inr a ↦ subst (λ c. Agrees true ts (forked (opens_next ts) c gx gy) (furthest rx ry)) (sym a)
+          (fork-off (opens_next ts) ts gx gy rx ry (hangs (y_of b)) f forked-here a (λ c. (no-paren depth b ts f c).1 a) (λ p e. let on = second-on p e in cc (on, a))
+          (refused-so (hangs (x_of b)) ts gx (read_at language limit r (x_of b) ts) (s ts f small)) (t ts f small))
+    ]
+
+    pub unbegun-agrees : starts language (among (language.heads (form b 42))) ts ≡ false → Agrees true ts gx (furthest rx ry)
+    unfolding nullable firsts
+    unbegun-agrees o =
+        let x-is : gx ≡ Err (wrong ts) = not-begun depth (x_of b) i refl ts done o in
+        let y-is : gy ≡ Err (wrong ts) = not-begun depth (y_of b) j refl ts done (off-covered language (language.heads (form b 42)) (firsts {A = Token} language.heads (y_of b)) ts (covered b) o) in
+        let rx-is : rx ≡ Err (false, ts) = ap (refused language arrow_kinds) (wrong-told (hangs (x_of b)) ts gx (read_at language limit r (x_of b) ts) f (s ts f small) x-is) in
+        let ry-is : ry ≡ Err (false, ts) = wrong-told (hangs (y_of b)) ts gy ry f (t ts f small) y-is in
+        inr (inr (false, false, ts, x-is, told-second ts rx ry false false ts ts f.0 rx-is ry-is (within-self ts f.1) (within-self ts f.1) refl (omega arith), within-self ts f.1))
+
+    pub fork-agrees : Agrees true ts (guided language ahead (rule depth) (fork arrow_kinds (x_of b) (y_of b)) ts done) (read_at language limit r (fork arrow_kinds (x_of b) (y_of b)) ts)
+    unfolding guided read_at firsts
+    fork-agrees = by (starts language (among (language.heads (form b 42))) ts) refl
+      where
+        by : (c : Bool) → starts language (among (language.heads (form b 42))) ts ≡ c
+            → Agrees true ts (if c then called (forked (opens_next ts) (ahead ts) gx gy) done else gx) (furthest rx ry)
+        by true o = subst (λ u. Agrees true ts u (furthest rx ry)) (sym (called-done_is (forked (opens_next ts) (ahead ts) gx gy))) begun-agrees
+        by false o = unbegun-agrees o
+
+  pub guided-agrees : (x : Grammar Token) → InPlace language.rules x → decided language.heads follows x ≡ true → told language.heads parentheses x ≡ true → stops x ≡ true → free end_kinds script x ≡ true
+      → still x ≡ true → Forks x → So x
+  unfolding InPlace decided told stops free still Forks guided read_at hangs
+  guided-agrees empty i d o s v w k ts f small = inl ((tip, ts), refl, refl, within-self ts f.1)
+  guided-agrees (token kinds) i d o s v w k ts f small = token-agrees kinds v ts f small
+  guided-agrees (call name) i d o s v w k ts f small =
+      subst (λ u. Agrees (hanging name) ts u (r name ts)) (sym (called-done_is (rule depth name ts))) (h name (not_true (name == script) v) ts f small)
+  guided-agrees (line name x) i d o s v w k ts f small =
+      let q = in-place language follows language-fits name x i in
+      let p = in-pairs language follows language-fits parentheses language-told name x i in
+      guided-agrees x q.4 q.3 p.2 (subst (λ y. stops y ≡ true) (sym i) (each-stops name)) (subst (λ y. free end_kinds script y ≡ true) (sym i) (each-free name (not_true (name == script) v)))
+      (subst (λ y. still y ≡ true) (sym i) (each-still name).1) (subst Forks (sym i) (each-forks name)) ts f small
+  guided-agrees (both x y) i d o s v w k ts f small =
+      let d₁ = and_both (apart (goes_on language.heads follows x) (firsts language.heads y)) _ d in
+      let d₂ = and_both (decided language.heads follows x) (decided language.heads follows y) d₁.1 in
+      let o₁ = and_both (told language.heads parentheses x) (told language.heads parentheses y) o in
+      let s₁ = and_both (stops x) (stops y) s in
+      let v₁ = and_both (free end_kinds script x) (free end_kinds script y) v in
+      let w₁ = and_both (if-hangs (hangs x) (firsts language.heads y)) _ w in
+      let w₂ = and_both (still x) (still y) w₁.1 in
+      both-agrees x y i.1 (if-implied (hangs x) (firsts language.heads y) w₁.0) (guided-agrees x i.0 d₂.0 o₁.0 s₁.0 v₁.0 w₂.0 k.0) (guided-agrees y i.1 d₂.1 o₁.1 s₁.1 v₁.1 w₂.1 k.1) ts f small
+  guided-agrees (either x y) i d o s v w k ts f small =
+      let d₁ = and_both (not (nullable x)) _ d in
+      let d₂ = and_both (apart (firsts language.heads x) (firsts language.heads y)) _ d₁.1 in
+      let d₃ = and_both (decided language.heads follows x) (decided language.heads follows y) d₂.1 in
+      let o₁ = and_both (told language.heads parentheses x) (told language.heads parentheses y) o in
+      let s₁ = and_both (stops x) (stops y) s in
+      let v₁ = and_both (free end_kinds script x) (free end_kinds script y) v in
+      let w₁ = and_both (still x) (still y) w in
+      agrees-if (hangs x || hangs y) (starts language (among (firsts language.heads x)) ts) ts _ _ _ _
+      (agrees-more (hangs x) (hangs x || hangs y) (one-of (hangs x) (hangs y)) ts _ _ (guided-agrees x i.0 d₃.0 o₁.0 s₁.0 v₁.0 w₁.0 k.0 ts f small))
+      (agrees-more (hangs y) (hangs x || hangs y) (or_right (hangs x) (hangs y)) ts _ _ (guided-agrees y i.1 d₃.1 o₁.1 s₁.1 v₁.1 w₁.1 k.1 ts f small))
+  guided-agrees (fork stop x y) i d o s v w k ts f small =
+      let d₁ = and_both (decided language.heads follows x) (decided language.heads follows y) d in
+      let o₁ = and_both (and (and (leads language.heads parentheses stop x) (alone language.heads parentheses stop x)) (before_stop language.heads parentheses stop y)) _ o in
+      let o₂ = and_both (and (leads language.heads parentheses stop x) (alone language.heads parentheses stop x)) (before_stop language.heads parentheses stop y) o₁.0 in
+      let o₃ = and_both (leads language.heads parentheses stop x) (alone language.heads parentheses stop x) o₂.0 in
+      let o₄ = and_both (told language.heads parentheses x) (told language.heads parentheses y) o₁.1 in
+      let s₁ = and_both (alike stop arrow_kinds) _ s in
+      let s₃ = and_both (and (not (nullable y)) (covers (firsts language.heads x) (firsts language.heads y))) (and (stops x) (stops y)) s₁.1 in
+      let s₂ = and_both (stops x) (stops y) s₃.1 in
+      let v₁ = and_both (free end_kinds script x) (free end_kinds script y) v in
+      let w₁ = and_both (still x) (still y) w in
+      let same : stop ≡ arrow_kinds = alike-same stop arrow_kinds s₁.0 in
+      let b = (k.0).0 in
+      let ex : x ≡ x_of b = (k.0).1 in
+      let ey : y ≡ y_of b = (k.0).2 in
+      let x-so : So x = guided-agrees x i.0 d₁.0 o₄.0 s₂.0 v₁.0 w₁.0 k.1 in
+      let y-so : So y = guided-agrees y i.1 d₁.1 o₄.1 s₂.1 v₁.1 w₁.1 k.2 in
+      let leads₁ : leads language.heads parentheses arrow_kinds (x_of b) ≡ true =
+      subst (λ x. leads language.heads parentheses arrow_kinds x ≡ true) ex (subst (λ stop. leads language.heads parentheses stop x ≡ true) same o₃.0) in
+      let alone₁ : alone language.heads parentheses arrow_kinds (x_of b) ≡ true =
+      subst (λ x. alone language.heads parentheses arrow_kinds x ≡ true) ex (subst (λ stop. alone language.heads parentheses stop x ≡ true) same o₃.1) in
+      let before₁ : before_stop language.heads parentheses arrow_kinds (y_of b) ≡ true =
+      subst (λ y. before_stop language.heads parentheses arrow_kinds y ≡ true) ey (subst (λ stop. before_stop language.heads parentheses stop y ≡ true) same o₂.1) in
+      let whole : So (fork arrow_kinds (x_of b) (y_of b)) =
+      λ ts f small. fork-agrees b (subst So ex x-so) (subst So ey y-so) leads₁ alone₁ before₁ (subst (InPlace language.rules) ex i.0) (subst (InPlace language.rules) ey i.1) ts f small in
+      subst (λ stop. So (fork stop x y)) (sym same) (subst (λ x. So (fork arrow_kinds x y)) (sym ex) (subst (λ y. So (fork arrow_kinds (x_of b) y)) (sym ey) whole)) ts f small
+  guided-agrees (many more x) i d o s v w k ts f small =
+      let d₁ = and_both (not (nullable x)) _ d in
+      let d₂ = and_both (apart (goes_on language.heads follows x) (firsts language.heads x)) (decided language.heads follows x) d₁.1 in
+      let w₁ = and_both (if-hangs (hangs x) (firsts language.heads x)) (still x) w in
+      many-agrees (among (firsts language.heads x)) more x (guided-agrees x i d₂.1 o s v w₁.1 k) (hangs x) (λ e. e)
+      (λ e m arrow. off-apart language (firsts language.heads x) arrow_kinds m (if-implied (hangs x) (firsts language.heads x) w₁.0 e) arrow)
+      (λ ts p e. (begun-surely language (firsts language.heads x) (nullable x) ts p.1 (not_true (nullable x) d₁.0)
+      (spells-begun language follows language-fits (Derives language depth) (derives-begun language follows language-fits depth) x i ts p.1 p.0
+      (guided-finds language ahead (rule depth) (Derives language depth) (rule-finds language ahead depth) x ts p e))).1)
+      (length ts) limit ts f small (omega arith) small
+  guided-agrees (named name x) i d o s v w k ts f small = named-agrees name x (guided-agrees x i d o s v w k) ts f small
+  guided-agrees (prefer kinds x) i d o s v w k ts f small =
+      let d₁ = and_both (not (nullable x)) _ d in
+      let d₂ = and_both (covers kinds (firsts language.heads x)) (decided language.heads follows x) d₁.1 in
+      agrees-if (hangs x) (starts language (among kinds) ts) ts _ (done tip ts) _ (Ok (tip, ts)) (guided-agrees x i d₂.1 o s v w k ts f small) (inl ((tip, ts), refl, refl, within-self ts f.1))
+  guided-agrees (starting test x) i d o s v w k ts f small =
+      let d₁ = and_both (not (nullable x)) _ d in
+      agrees-if (hangs x) (starts language test ts) ts _ (Err (wrong ts)) _ (Err (false, ts)) (guided-agrees x i d₁.1 o s v w k ts f small)
+      (inr (inr (false, false, ts, refl, refl, within-self ts f.1)))
+  guided-agrees (on test x y z) i d o s v w k ts f small =
+      let d₁ = and_both (apart (goes_on language.heads follows x) _) _ d in
+      let d₂ = and_both (decided language.heads follows x) _ d₁.1 in
+      let d₃ = and_both (decided language.heads follows y) (decided language.heads follows z) d₂.1 in
+      let o₁ = and_both (told language.heads parentheses x) _ o in
+      let o₂ = and_both (told language.heads parentheses y) (told language.heads parentheses z) o₁.1 in
+      let s₁ = and_both (stops x) _ s in
+      let s₂ = and_both (stops y) (stops z) s₁.1 in
+      let v₁ = and_both (free end_kinds script x) _ v in
+      let v₂ = and_both (free end_kinds script y) (free end_kinds script z) v₁.1 in
+      let w₁ = and_both (if-hangs (hangs x) (firsts language.heads y ++ firsts language.heads z)) _ w in
+      let w₂ = and_both (still x) _ w₁.1 in
+      let w₃ = and_both (still y) (still z) w₂.1 in
+      on-agrees test x y z i.1 i.2 (λ e. apart-both (firsts language.heads y) (firsts language.heads z) arrow_kinds (if-implied (hangs x) (firsts language.heads y ++ firsts language.heads z) w₁.0 e))
+      (guided-agrees x i.0 d₂.0 o₁.0 s₁.0 v₁.0 w₂.0 k.0) (guided-agrees y i.1 d₃.0 o₂.0 s₂.0 v₂.0 w₃.0 k.1) (guided-agrees z i.2 d₃.1 o₂.1 s₂.1 v₂.1 w₃.1 k.2) ts f small
+
+-- Each rule.
+pub rule-agrees : (limit depth n : ℕ) → (n == script) ≡ false → (ts : List Token) → Fine ts → length ts < limit → Agrees (hanging n) ts (rule depth n ts) (read language limit depth n ts)
+unfolding rule_at read
+rule-agrees limit zero n o ts f small = by (starts language (among (language.heads n)) ts)
+  where
+    by : (b : Bool) → Agrees (hanging n) ts (Err (too_far b ts)) (Err (b, ts))
+    by true = inr (inr (true, false, ts, refl, refl, within-self ts f.1))
+    by false = inr (inr (false, false, ts, refl, refl, within-self ts f.1))
+rule-agrees limit (suc depth) n o ts f small =
+    let q = in-place language follows language-fits n (language.rules n) refl in
+    let p = in-pairs language follows language-fits parentheses language-told n (language.rules n) refl in
+    let k = each-still n in
+    agrees-more (hangs (language.rules n)) (hanging n) k.0 ts _ _
+    (guided-agrees limit depth (rule-agrees limit depth) (language.rules n) q.4 q.3 p.2 (each-stops n) (each-free n o) k.1 (each-forks n) ts f small)
