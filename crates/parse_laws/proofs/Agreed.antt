@@ -247,10 +247,14 @@ module _ (ts : List Token) (x y : Was Token) (q : Forked ts x y) where
       | inr n ↦ not-both (wrong g.0) n.0 x g.1 n.1
     ]
     | inr q ↦ elim q [
-      | inl g ↦ inl (g.0, g.1, elim e [
-        | inl n ↦ past-fault (place_at g.0) x d s l n g.2
-        | inr n ↦ let k = past-read (place_at g.0) x n.0 n.1 g.2 in let same : place_at l ≡ place_at (n.0).1 = ap (λ l. place_at l) n.4 in omega (arith, k, same)
-      ])
+      | inl g ↦ inl (
+        g.0,
+        g.1,
+        elim e [
+          | inl n ↦ past-fault (place_at g.0) x d s l n g.2
+          | inr n ↦ let k = past-read (place_at g.0) x n.0 n.1 g.2 in let same : place_at l ≡ place_at (n.0).1 = ap (λ l. place_at l) n.4 in omega (arith, k, same)
+        ],
+      )
       | inr q ↦ elim q [
         | inl g ↦ inr (inl (g.1 ∙ sym g.2))
         | inr g ↦ elim e [

@@ -144,10 +144,16 @@ module _ (depth : ℕ) (b : Bool) where
         let x = cond-name depth b (of_kind t.kind) t.broken t m n refl refl in
         let y = named-arrow depth b t m n in
         let is : ahead (t ∷ m) ≡ starts language (among arrow_kinds) m = ahead-name t m n ∙ arrow-starts m in (
-          λ a. (_, x ∙ behind-quiet depth b (leaf t) m (quiet-arrow depth b m (sym is ∙ a)),
-          subst (λ w. Past (place_at m) w) (sym y) (stands-past m (tail depth b (leaf t) m) v.0 (tail-stands depth b m m (leaf t) (within-self m v.1)))),
-          λ a. (m, y ∙ tail-off depth b m (leaf t) (sym is ∙ a),
-          subst (λ w. Past (place_at m) w) (sym x) (stands-past m (behind depth b (leaf t) m) v.0 (behind-stands depth b m m (leaf t) (within-self m v.1)))),
+          λ a. (
+            _,
+            x ∙ behind-quiet depth b (leaf t) m (quiet-arrow depth b m (sym is ∙ a)),
+            subst (λ w. Past (place_at m) w) (sym y) (stands-past m (tail depth b (leaf t) m) v.0 (tail-stands depth b m m (leaf t) (within-self m v.1))),
+          ),
+          λ a. (
+            m,
+            y ∙ tail-off depth b m (leaf t) (sym is ∙ a),
+            subst (λ w. Past (place_at m) w) (sym x) (stands-past m (behind depth b (leaf t) m) v.0 (behind-stands depth b m m (leaf t) (within-self m v.1))),
+          ),
         )
     | inr n ↦ (
       λ a. absurd (let off = ahead-other t m (opens-agree t ∙ o) n in cc (off, a)),

@@ -159,8 +159,12 @@ module _ (depth : ℕ) where
             | inl o ↦ inl (m, not-begun depth (line 43 (assign_rule true)) (placed-assign true).0 refl m kx (refused-off m o), stands-past m y f.0 sy)
             | inr o ↦
                 let off = one-off m h o in
-                inr (inl (m, none off.0 ∙ shut-none shut_paren g m off.1, stands-past m x f.0 (subst (Stands m) (sym con)
-                (onward m m (within-self m f.1) (assigned depth (λ a. a) m) kx x-stands (λ a r w. stands-more m r w (kx a r) (sx a r w.2))))))
+                inr (inl (
+                  m,
+                  none off.0 ∙ shut-none shut_paren g m off.1,
+                  stands-past m x f.0 (subst (Stands m) (sym con)
+                      (onward m m (within-self m f.1) (assigned depth (λ a. a) m) kx x-stands (λ a r w. stands-more m r w (kx a r) (sx a r w.2)))),
+                ))
           ]
         ]
 
@@ -194,4 +198,3 @@ module _ (depth : ℕ) where
         params-comma-stands g k t m e = onward-by depth (optional one_x) placed-maybe.0 placed-maybe.1 m m (within-self m e) _ (λ o r w. stands-if (has_parameter (pair (leaf t) o)) m _ _
             (stands-more m r w _ (loop-stands more_x has_parameter placed-more (λ d. g (pair (pair (leaf t) o) d)) k r w.2))
             (stands-more m r w _ (shut-stands shut_paren (g (pair (pair (leaf t) o) tip)) r shut-end w.2)))
-

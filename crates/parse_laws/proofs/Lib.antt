@@ -37,4 +37,5 @@ pub mod Depths
 pub mod Merged
 pub mod Agreed
 pub mod Faults
+pub mod Exact
 pub mod Rows

@@ -170,10 +170,14 @@ module _ (depth : ℕ) where
                 let off = off-apart language (firsts language.heads x) close m p.x-closes c in
                 let one : guided language ahead (rule depth) (optional x) m hx ≡ shut_by close fx m = chosen-false (starts language (among (firsts language.heads x)) m) _ _ off ∙ tx in
                 subst (λ u. Lock u (shut_by close fy m)) (sym one) (shut-lock close fx fy m)
-            | inr c ↦ inr (inl (m, shut-none close fy m c, stands-past m _ f.0 (stands-if (starts language (among (firsts language.heads x)) m) m _ _
-                (subst (Stands m) (sym (ex kx ∙ guided-continues language ahead (rule depth) Read x m kx))
-                (onward m m (within-self m f.1) (reads x m) kx (guided-stands (rule depth) (rule-stands depth) x p.x-placed.0 p.x-placed.1 m f.1) (λ a l w. stands-more m l w (kx a l) (sx a l w.2))))
-                (subst (Stands m) (sym tx) (shut-stands close fx m p.no-end f.1)))))
+            | inr c ↦ inr (inl (
+              m,
+              shut-none close fy m c,
+              stands-past m _ f.0 (stands-if (starts language (among (firsts language.heads x)) m) m _ _
+                  (subst (Stands m) (sym (ex kx ∙ guided-continues language ahead (rule depth) Read x m kx))
+                  (onward m m (within-self m f.1) (reads x m) kx (guided-stands (rule depth) (rule-stands depth) x p.x-placed.0 p.x-placed.1 m f.1) (λ a l w. stands-more m l w (kx a l) (sx a l w.2))))
+                  (subst (Stands m) (sym tx) (shut-stands close fx m p.no-end f.1))),
+            ))
           ])
     ]
 

@@ -274,8 +274,11 @@ module _ (depth : ℕ) where
           subst (λ w. Open (keyed_first z t (u ∷ m)) w) (sym two) (elim (is_or_not (starts language (among equal_kinds) (u ∷ m))) [
             | inl q ↦
                 let off = quiet-equals (u ∷ m) q in
-                inl (u ∷ m, inr (pair (leaf t) tip, k.none (u ∷ m) (λ b r. done (pair (leaf t) b) r) off.0, off.1),
-                stands-past (u ∷ m) _ f.0 (Rattle.parse_laws.proofs.Lockstep.defaulted-stands depth (u ∷ m) (u ∷ m) member_behind (pair (leaf t) tip) (within-self (u ∷ m) f.1)))
+                inl (
+                  u ∷ m,
+                  inr (pair (leaf t) tip, k.none (u ∷ m) (λ b r. done (pair (leaf t) b) r) off.0, off.1),
+                  stands-past (u ∷ m) _ f.0 (Rattle.parse_laws.proofs.Lockstep.defaulted-stands depth (u ∷ m) (u ∷ m) member_behind (pair (leaf t) tip) (within-self (u ∷ m) f.1)),
+                )
             | inr q ↦
                 let none = Rattle.parse_laws.proofs.Lockstep.default-none depth (u ∷ m) (λ b r. done (member_behind (pair (leaf t) tip) b) r) q in
                 elim (is_or_not (starts language (among follow_kinds) (u ∷ m))) [
