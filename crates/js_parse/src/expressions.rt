@@ -18,7 +18,7 @@ use js_tree::{BinaryOperator, Function, Node, NodeId};
 use sqlite_items::Items;
 use std::alloc::Global;
 
-// A function with these parameters and this body.
+/// A function with these parameters and this body.
 pub fn function_of(parameters: Parameters, body: NodeId) -> Function
     ensures { result ≡ spec.function_of parameters body }
 {

@@ -261,7 +261,7 @@ module _ (depth : ℕ) (h : Parted depth) (allow_in : Bool) where
       step (h.right_part allow_in) m _ _ _ (λ v rest.
       ap (λ w. let u = mk.after w (λ left. mk.assigned (parts_at depth) (Some o) at left (pair (leaf t) v)) in Ok (u.0, (rest, u.1))) (sym (Behind.short-built depth h allow_in at a ns))
       ∙ ap (λ p. let u = mk.after (mk.short_at (parts_at depth) at (Behind.short_tower depth h allow_in a) ns) (λ left. mk.assigned (parts_at depth) p at left (pair (leaf t) v)) in Ok (u.0, (rest, u.1))) (sym e))
-      ∙ begun at ns a t m begins ∙ reached-first at ns a (t ∷ m) q ∙ sym (Behind.short-stops depth h allow_in (NodeId × Input) a (t ∷ m) (cond_end at ns) begins)
+      ∙ begun at ns a t m begins ∙ reached-first at ns a (t ∷ m) q ∙ sym (Behind.short-stops depth h allow_in (NodeId × Input) a (t ∷ m) (cond_end at ns) (Behind.assign-stops (t ∷ m) begins))
 
   pub no-assign : (at : ℕ) (ns : Nodes) (a : Tree Token) (m : List Token) → (reaches left_node a ≡ true → starts language (among assign_kinds) m ≡ false)
       → told (let w = mk.unary (parts_at depth) a ns in g.behind_operand (part_at depth) allow_in at w.0 None (m, w.1)) ≡ Behind.rest-short depth h allow_in (NodeId × Input) a m (cond_end at ns)

@@ -1,10 +1,10 @@
 -- What follows an operand, up to each level of operators.
-use Rattle.std.proofs.Common.{inl, inr, true, false, Bool, ◌≡◌, ℕ, suc, ◌+◌, List, [], ◌∷◌, length, refl, ap, sym, subst, ◌∙◌, codes}
+use Rattle.std.proofs.Common.{inl, inr, true, false, Bool, ◌≡◌, ℕ, suc, ◌+◌, List, [], ◌∷◌, ◌++◌, length, refl, ap, sym, subst, ◌∙◌, codes}
 use Rattle.std.specs.Prelude.{Option, Some, if◌then◌else◌, Ok}
-use Rattle.grammar.specs.Kinds.{among, apart}
+use Rattle.grammar.specs.Kinds.{among, apart, covers}
 use Rattle.grammar.specs.Reading.{firsts}
 use Rattle.grammar.specs.Grammar.{Tree, tip, leaf, pair, node, both, token, line, starts}
-use Rattle.grammar.proofs.Sets.{off-apart}
+use Rattle.grammar.proofs.Sets.{off-apart, at-covered}
 use Rattle.js_token.specs.declared.token.Token.{Token}
 use Rattle.js_tree.specs.Nodes.{Nodes}
 use Rattle.js_tree.specs.declared.node.NodeId.{NodeId}
@@ -35,6 +35,14 @@ left_node = 29 ∷ []
 abbrev pub assign_kinds : List ℕ
 assign_kinds = kinds assign_operators
 
+-- what no operator of these levels is
+abbrev pub stop_kinds : List ℕ
+stop_kinds = kinds (assign_operators ++ mark (codes ",") ∷ mark (codes ")") ∷ mark (codes "]") ∷ mark (codes "}") ∷ mark (codes "=>") ∷ [])
+
+pub assign-stops : (m : List Token) → starts language (among assign_kinds) m ≡ true → starts language (among stop_kinds) m ≡ true
+unfolding tables covers
+assign-stops m e = at-covered language stop_kinds assign_kinds m refl e
+
 pub reached-tip : (name : ℕ) (t c : Tree Token) → among left_node name ≡ false → reaches left_node (node name (pair t c)) ≡ true → (c ≡ tip) × (reaches left_node t ≡ true)
 unfolding reaches
 reached-tip name t tip o e = (refl, rw o at e)
@@ -46,7 +54,7 @@ pub reaches-up : (name : ℕ) (t : Tree Token) → among left_node name ≡ fals
 unfolding reaches
 reaches-up name t o = rw o refl
 
-pub apart-4 : (b : Bool) → apart (firsts language.heads (both (token (kinds (relational b))) (line 33 shift_rule))) assign_kinds ≡ true
+pub apart-4 : (b : Bool) → apart (firsts language.heads (both (token (kinds (relational b))) (line 33 shift_rule))) stop_kinds ≡ true
 unfolding tables apart
 apart-4 true = refl
 apart-4 false = refl
@@ -60,7 +68,7 @@ module _ (depth : ℕ) (h : Parted depth) (allow_in : Bool) where
     pub tower : Tree Token → Tree Token
     pub tower-reaches : (a : Tree Token) → reaches left_node (tower a) ≡ reaches left_node a
     pub tower-built : (at : ℕ) (a : Tree Token) (ns : Nodes) → mk.operand_at (parts_at depth) n at (tower a) ns ≡ mk.unary (parts_at depth) a ns
-    pub stops : (C : Type 0) (a : Tree Token) (m : List Token) (k : Goes Token C) → starts language (among assign_kinds) m ≡ true → R C a m k ≡ k (tower a) m
+    pub stops : (C : Type 0) (a : Tree Token) (m : List Token) (k : Goes Token C) → starts language (among stop_kinds) m ≡ true → R C a m k ≡ k (tower a) m
 
   abbrev pub rest-0 : Rest
   rest-0 C a m k = k a m
@@ -81,7 +89,7 @@ module _ (depth : ℕ) (h : Parted depth) (allow_in : Bool) where
   rest-up name x R C a m k = R C a m (λ t mid. guided language ahead (rule depth) (any x) mid (λ c rest. k (node name (pair t c)) rest))
 
   pub behind-up : (n : ℕ) {R : Rest} {x : Rule} {kinds : List ℕ} (name below : ℕ) → among left_node name ≡ false → vacant x ≡ false → Level (suc n) allow_in kinds
-      → ((m : List Token) → starts language (among assign_kinds) m ≡ true → starts language (among (firsts language.heads (both (token kinds) (line below x)))) m ≡ false)
+      → ((m : List Token) → starts language (among stop_kinds) m ≡ true → starts language (among (firsts language.heads (both (token kinds) (line below x)))) m ≡ false)
       → Operators.Operated depth h allow_in n x → Behind n R → Behind (suc n) (rest-up name (both (token kinds) (line below x)) R)
   unfolding g.operations mk.operand_at g.operand mk.chain guided
   behind-up n {R} {x} {kinds} name below other v known off sub prev = record {
@@ -124,9 +132,9 @@ module _ (depth : ℕ) (h : Parted depth) (allow_in : Bool) where
   abbrev pub operator_1 : Rule
   operator_1 = both (token (kinds (mark (codes "*") ∷ mark (codes "/") ∷ mark (codes "%") ∷ []))) (line 30 unary_rule)
 
-  pub off-1 : (m : List Token) → starts language (among assign_kinds) m ≡ true → starts language (among (firsts language.heads operator_1)) m ≡ false
+  pub off-1 : (m : List Token) → starts language (among stop_kinds) m ≡ true → starts language (among (firsts language.heads operator_1)) m ≡ false
   unfolding tables apart
-  off-1 m e = off-apart language (firsts language.heads operator_1) assign_kinds m refl e
+  off-1 m e = off-apart language (firsts language.heads operator_1) stop_kinds m refl e
 
   abbrev pub rest-1 : Rest
   rest-1 = rest-up 31 operator_1 rest-0
@@ -138,9 +146,9 @@ module _ (depth : ℕ) (h : Parted depth) (allow_in : Bool) where
   abbrev pub operator_2 : Rule
   operator_2 = both (token (kinds (mark (codes "+") ∷ mark (codes "-") ∷ []))) (line 31 mul_rule)
 
-  pub off-2 : (m : List Token) → starts language (among assign_kinds) m ≡ true → starts language (among (firsts language.heads operator_2)) m ≡ false
+  pub off-2 : (m : List Token) → starts language (among stop_kinds) m ≡ true → starts language (among (firsts language.heads operator_2)) m ≡ false
   unfolding tables apart
-  off-2 m e = off-apart language (firsts language.heads operator_2) assign_kinds m refl e
+  off-2 m e = off-apart language (firsts language.heads operator_2) stop_kinds m refl e
 
   abbrev pub rest-2 : Rest
   rest-2 = rest-up 32 operator_2 rest-1
@@ -152,9 +160,9 @@ module _ (depth : ℕ) (h : Parted depth) (allow_in : Bool) where
   abbrev pub operator_3 : Rule
   operator_3 = both (token (kinds (mark (codes "<<") ∷ mark (codes ">>") ∷ mark (codes ">>>") ∷ []))) (line 32 add_rule)
 
-  pub off-3 : (m : List Token) → starts language (among assign_kinds) m ≡ true → starts language (among (firsts language.heads operator_3)) m ≡ false
+  pub off-3 : (m : List Token) → starts language (among stop_kinds) m ≡ true → starts language (among (firsts language.heads operator_3)) m ≡ false
   unfolding tables apart
-  off-3 m e = off-apart language (firsts language.heads operator_3) assign_kinds m refl e
+  off-3 m e = off-apart language (firsts language.heads operator_3) stop_kinds m refl e
 
   abbrev pub rest-3 : Rest
   rest-3 = rest-up 33 operator_3 rest-2
@@ -166,13 +174,13 @@ module _ (depth : ℕ) (h : Parted depth) (allow_in : Bool) where
   abbrev pub operator_4 : Rule
   operator_4 = both (token (kinds (relational allow_in))) (line 33 shift_rule)
 
-  pub off-4 : (m : List Token) → starts language (among assign_kinds) m ≡ true → starts language (among (firsts language.heads operator_4)) m ≡ false
+  pub off-4 : (m : List Token) → starts language (among stop_kinds) m ≡ true → starts language (among (firsts language.heads operator_4)) m ≡ false
   unfolding tables
   off-4 m e = by allow_in
     where
       by : (b : Bool) → starts language (among (firsts language.heads (both (token (kinds (relational b))) (line 33 shift_rule)))) m ≡ false
-      by true = off-apart language _ assign_kinds m (apart-4 true) e
-      by false = off-apart language _ assign_kinds m (apart-4 false) e
+      by true = off-apart language _ stop_kinds m (apart-4 true) e
+      by false = off-apart language _ stop_kinds m (apart-4 false) e
 
   abbrev pub rest-4 : Rest
   rest-4 = rest-up (form allow_in 34) operator_4 rest-3
@@ -184,9 +192,9 @@ module _ (depth : ℕ) (h : Parted depth) (allow_in : Bool) where
   abbrev pub operator_5 : Rule
   operator_5 = both (token (kinds (mark (codes "===") ∷ mark (codes "!==") ∷ []))) (line (form allow_in 34) (rel_rule allow_in))
 
-  pub off-5 : (m : List Token) → starts language (among assign_kinds) m ≡ true → starts language (among (firsts language.heads operator_5)) m ≡ false
+  pub off-5 : (m : List Token) → starts language (among stop_kinds) m ≡ true → starts language (among (firsts language.heads operator_5)) m ≡ false
   unfolding tables apart
-  off-5 m e = off-apart language (firsts language.heads operator_5) assign_kinds m refl e
+  off-5 m e = off-apart language (firsts language.heads operator_5) stop_kinds m refl e
 
   abbrev pub rest-5 : Rest
   rest-5 = rest-up (form allow_in 35) operator_5 rest-4
@@ -198,9 +206,9 @@ module _ (depth : ℕ) (h : Parted depth) (allow_in : Bool) where
   abbrev pub operator_6 : Rule
   operator_6 = both (token (kinds (mark (codes "&") ∷ []))) (line (form allow_in 35) (equal_rule allow_in))
 
-  pub off-6 : (m : List Token) → starts language (among assign_kinds) m ≡ true → starts language (among (firsts language.heads operator_6)) m ≡ false
+  pub off-6 : (m : List Token) → starts language (among stop_kinds) m ≡ true → starts language (among (firsts language.heads operator_6)) m ≡ false
   unfolding tables apart
-  off-6 m e = off-apart language (firsts language.heads operator_6) assign_kinds m refl e
+  off-6 m e = off-apart language (firsts language.heads operator_6) stop_kinds m refl e
 
   abbrev pub rest-6 : Rest
   rest-6 = rest-up (form allow_in 36) operator_6 rest-5
@@ -212,9 +220,9 @@ module _ (depth : ℕ) (h : Parted depth) (allow_in : Bool) where
   abbrev pub operator_7 : Rule
   operator_7 = both (token (kinds (mark (codes "^") ∷ []))) (line (form allow_in 36) (bit_and_rule allow_in))
 
-  pub off-7 : (m : List Token) → starts language (among assign_kinds) m ≡ true → starts language (among (firsts language.heads operator_7)) m ≡ false
+  pub off-7 : (m : List Token) → starts language (among stop_kinds) m ≡ true → starts language (among (firsts language.heads operator_7)) m ≡ false
   unfolding tables apart
-  off-7 m e = off-apart language (firsts language.heads operator_7) assign_kinds m refl e
+  off-7 m e = off-apart language (firsts language.heads operator_7) stop_kinds m refl e
 
   abbrev pub rest-7 : Rest
   rest-7 = rest-up (form allow_in 37) operator_7 rest-6
@@ -226,9 +234,9 @@ module _ (depth : ℕ) (h : Parted depth) (allow_in : Bool) where
   abbrev pub operator_8 : Rule
   operator_8 = both (token (kinds (mark (codes "|") ∷ []))) (line (form allow_in 37) (bit_xor_rule allow_in))
 
-  pub off-8 : (m : List Token) → starts language (among assign_kinds) m ≡ true → starts language (among (firsts language.heads operator_8)) m ≡ false
+  pub off-8 : (m : List Token) → starts language (among stop_kinds) m ≡ true → starts language (among (firsts language.heads operator_8)) m ≡ false
   unfolding tables apart
-  off-8 m e = off-apart language (firsts language.heads operator_8) assign_kinds m refl e
+  off-8 m e = off-apart language (firsts language.heads operator_8) stop_kinds m refl e
 
   abbrev pub rest-8 : Rest
   rest-8 = rest-up (form allow_in 38) operator_8 rest-7
@@ -240,9 +248,9 @@ module _ (depth : ℕ) (h : Parted depth) (allow_in : Bool) where
   abbrev pub operator_9 : Rule
   operator_9 = both (token (kinds (mark (codes "&&") ∷ []))) (line (form allow_in 38) (bit_or_rule allow_in))
 
-  pub off-9 : (m : List Token) → starts language (among assign_kinds) m ≡ true → starts language (among (firsts language.heads operator_9)) m ≡ false
+  pub off-9 : (m : List Token) → starts language (among stop_kinds) m ≡ true → starts language (among (firsts language.heads operator_9)) m ≡ false
   unfolding tables apart
-  off-9 m e = off-apart language (firsts language.heads operator_9) assign_kinds m refl e
+  off-9 m e = off-apart language (firsts language.heads operator_9) stop_kinds m refl e
 
   abbrev pub rest-9 : Rest
   rest-9 = rest-up (form allow_in 39) operator_9 rest-8
@@ -254,9 +262,9 @@ module _ (depth : ℕ) (h : Parted depth) (allow_in : Bool) where
   abbrev pub operator_10 : Rule
   operator_10 = both (token (kinds (mark (codes "||") ∷ []))) (line (form allow_in 39) (and_rule allow_in))
 
-  pub off-10 : (m : List Token) → starts language (among assign_kinds) m ≡ true → starts language (among (firsts language.heads operator_10)) m ≡ false
+  pub off-10 : (m : List Token) → starts language (among stop_kinds) m ≡ true → starts language (among (firsts language.heads operator_10)) m ≡ false
   unfolding tables apart
-  off-10 m e = off-apart language (firsts language.heads operator_10) assign_kinds m refl e
+  off-10 m e = off-apart language (firsts language.heads operator_10) stop_kinds m refl e
 
   abbrev pub rest-10 : Rest
   rest-10 = rest-up (form allow_in 40) operator_10 rest-9
@@ -345,11 +353,11 @@ module _ (depth : ℕ) (h : Parted depth) (allow_in : Bool) where
   unfolding mk.short_at mk.chain
   short-built at a ns = behind-10.tower-built at a ns
 
-  pub off-coalesce : (m : List Token) → starts language (among assign_kinds) m ≡ true → starts language (among (firsts language.heads coalesced_x)) m ≡ false
+  pub off-coalesce : (m : List Token) → starts language (among stop_kinds) m ≡ true → starts language (among (firsts language.heads coalesced_x)) m ≡ false
   unfolding tables apart
-  off-coalesce m e = off-apart language (firsts language.heads coalesced_x) assign_kinds m refl e
+  off-coalesce m e = off-apart language (firsts language.heads coalesced_x) stop_kinds m refl e
 
-  pub short-stops : (C : Type 0) (a : Tree Token) (m : List Token) (k : Goes Token C) → starts language (among assign_kinds) m ≡ true → rest-short C a m k ≡ k (short_tower a) m
+  pub short-stops : (C : Type 0) (a : Tree Token) (m : List Token) (k : Goes Token C) → starts language (among stop_kinds) m ≡ true → rest-short C a m k ≡ k (short_tower a) m
   unfolding guided
   short-stops C a m k e = behind-10.stops C a m (short_with C k) e
       ∙ sym (Operators.if-both depth h allow_in (reaches to_short (behind-10.tower a)) _ _ (Operators.none-comes depth h allow_in coalesced_x (length m) m (λ d e. k (node (form allow_in 41) (pair (behind-10.tower a) d)) e) (off-coalesce m e)))

@@ -27,4 +27,15 @@ pub mod Kindred
 pub mod Followed
 pub mod Scripts
 pub mod Texts
+pub mod Places
+pub mod Covered
+pub mod Lockstep
+pub mod Lists
+pub mod Readings
+pub mod Headings
+pub mod Depths
+pub mod Merged
+pub mod Agreed
+pub mod Faults
+pub mod Exact
 pub mod Rows

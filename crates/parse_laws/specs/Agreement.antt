@@ -1,12 +1,14 @@
 -- What is promised of the nodes of scripts.
-use Rattle.std.specs.Prelude.{◌≡◌, ℕ, List, [], Ok}
-use Rattle.grammar.specs.Grammar.{Tree, token, entry, Language, Derives, Spells}
+use Rattle.std.specs.Prelude.{◌≡◌, ℕ, suc, List, [], ◌∷◌, ◌++◌, Ok, Err}
+use Rattle.grammar.specs.Grammar.{Tree, token, entry, Language, Derives, Spells, Viable, NoneGoesOn}
 use Rattle.js_token.specs.declared.token.Token.{Token}
 use Rattle.js_token.specs.Tokens.{tokens_of}
 use Rattle.js_tree.specs.Nodes.{Nodes}
 use Rattle.js_tree.specs.declared.node.Node.TheVariants as made
-use Rattle.js_grammar.specs.Script.{rules, heads, any, item, nesting}
+use Rattle.js_grammar.specs.Script.{rules, heads, any, item, nesting, script_language, script}
 use Rattle.js_grammar.specs.Scripts.{IsScript}
+use Rattle.js_parse.specs.declared.fault.ParseFault.{ParseFault}
+use Rattle.js_parse.specs.declared.fault.ParseFault.TheVariants as fault
 use Rattle.js_parse.specs.declared.symbol.Symbol.TheVariants as s
 use Rattle.js_parse.specs.Input.{place_at}
 use Rattle.js_parse.specs.Ready.{symbol_of}
@@ -44,3 +46,18 @@ ParsesScripts = (tokens : List Token) (tree : Tree Token) → IsScript tokens tr
 abbrev pub ParsesTexts : Type 0
 ParsesTexts = (bytes : List ℕ) (tokens : List Token) (nodes : Nodes) → tokens_of bytes ≡ Ok tokens → parsed tokens ≡ Ok nodes
     → (tree : Tree Token) × IsScript tokens tree × (nodes ≡ nodes_of nesting tree)
+
+-- The tokens before the one at the place begin some script, and what is told of what goes on from that token on holds.
+abbrev pub StopsAt : ℕ → (List Token → List Token → Type 0) → List Token → Type 0
+StopsAt at told tokens =
+    (front : List Token) × (t : Token) × (rest : List Token) × (tokens ≡ front ++ t ∷ rest) × (t.place ≡ at) × Viable script_language script front × told front (t ∷ rest)
+
+-- The fault is at the first token that no script has behind the tokens before it: no script at all, or none in which parts nest at most to the limit.
+abbrev pub FaultIs : List Token → ParseFault → Type 0
+FaultIs tokens (fault.Token at) = StopsAt at (λ front left. (depth : ℕ) → NoneGoesOn script_language depth script front left) tokens
+FaultIs tokens (fault.Deep at) = StopsAt at (λ front left. NoneGoesOn script_language (suc nesting) script front left) tokens
+FaultIs tokens fault.Memory = ⊥
+
+-- The place of a text's fault is exact.
+abbrev pub FaultsExactly : Type 0
+FaultsExactly = (bytes : List ℕ) (tokens : List Token) (f : ParseFault) → tokens_of bytes ≡ Ok tokens → parsed tokens ≡ Err f → FaultIs tokens f

@@ -5,7 +5,7 @@
 //! depth by depth: both read the same, or neither does. `proofs/Rows` has whole scripts, their faults included.
 #![tactic(auto)]
 
-ghost use Rattle.parse_laws.specs.Agreement.{HasOneList, ParsesDerived, ParsesScripts, ParsesTexts};
+ghost use Rattle.parse_laws.specs.Agreement.{HasOneList, ParsesDerived, ParsesScripts, ParsesTexts, FaultsExactly};
 
 /// What the parser reads has a derivation, and the tree's nodes are those of that derivation (ECMA-262, 16.1): the items
 /// of the script, up to the end of the text, by the grammar's rules, with parts nested at most to the limit.
@@ -28,4 +28,10 @@ pub fn what_is_derived_is_parsed()
 /// derivation (ECMA-262, 16.1).
 pub fn what_is_parsed_of_a_text_is_derived()
     ensures { ParsesTexts }
+{}
+
+/// The place of a text's fault is exact: the tokens before it begin some script, and no script goes on with its token; of
+/// a fault of nesting, no script in which parts nest at most to the limit.
+pub fn faults_are_exact()
+    ensures { FaultsExactly }
 {}
