@@ -23,7 +23,7 @@ pub fn number_text(alloc: Global, n: i64) -> Result<Units, AllocError>
     for byte in digits.as_bytes() {
         list.push(u16::from(*byte))?;
     }
-    Ok(Units::from_short(list))
+    Units::from_short(alloc, list)
 }
 
 /// The number that the text is: an optional `-` and one or more decimal digits, leading zeros allowed. None exactly
