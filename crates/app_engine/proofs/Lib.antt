@@ -12,5 +12,11 @@ pub mod Yielded
 pub mod Played
 pub mod Windows
 pub mod Lines
+pub mod Joining
+pub mod Living
+pub mod Owing
+pub mod Silent
+pub mod Remaining
+pub mod Spelled
 pub mod Pieces
 mod Rows

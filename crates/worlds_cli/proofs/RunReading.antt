@@ -12,7 +12,7 @@ use Rattle.event_script.specs.Script.{script}
 use Rattle.wl_causes.specs.Causes.{Rose}
 use Rattle.wl_causes.specs.Reading.{Files}
 use Rattle.app_engine.specs.Log.{log_of}
-use Rattle.app_engine.specs.Scripts.{application_of}
+use Rattle.app_engine.specs.Scripts.{application_spelled}
 use Rattle.world_log.specs.Print.{printed_log}
 use Rattle.worlds_cli.specs.Answer.{answer_to, checks, output, required, events_refusal, line_refusal, has_lines, is_eventful, unplayed_if, as_status, fault_status}
 use Rattle.worlds_cli.specs.Clauses.{Stops, StopsAt}
@@ -143,15 +143,15 @@ module _ (files : Option Files) (app events : List ℕ) where
 
     -- All is played.
     pub accepts : (heard : IfSome files (λ f. (events_refusal f events ≡ None) × (is_eventful f events ≡ false)))
-        → IfSome files (λ f. answer_to f (run app events) ≡ Ok (printed_log (log_of (application_of texts))))
+        → IfSome files (λ f. answer_to f (run app events) ≡ Ok (printed_log (log_of (application_spelled texts))))
     unfolding answer_to output
     accepts heard = both files _ _ _ step read (first false heard)
       where
         step : (f : Files) → app_of f app ≡ Ok texts → first_refusal (checks f (run app events)) ≡ None
-            → answer_to f (run app events) ≡ Ok (printed_log (log_of (application_of texts)))
+            → answer_to f (run app events) ≡ Ok (printed_log (log_of (application_spelled texts)))
         step f e none =
             ap (λ r. option_map_or (λ s. Err s) r (Ok (output f (run app events)))) none
-            ∙ ap (λ t. Ok (printed_log (log_of (application_of t)))) (app-read f app texts e).1
+            ∙ ap (λ t. Ok (printed_log (log_of (application_spelled t)))) (app-read f app texts e).1
 
 -- ---- the event script
 

@@ -6,7 +6,7 @@ use Rattle.app_manifest.specs.Clauses.{IsNamed}
 use Rattle.app_manifest.specs.declared.app.AppFault.{AppFault}
 use Rattle.app_manifest.specs.declared.app.AppFault.TheVariants as refusal
 use Rattle.app_engine.specs.Log.{log_of}
-use Rattle.app_engine.specs.Scripts.{application_of}
+use Rattle.app_engine.specs.Scripts.{application_spelled}
 use Rattle.event_script.specs.Script.{script}
 use Rattle.event_script.specs.declared.line.Line.{Line as EventLine}
 use Rattle.hex.specs.Hex.{encode_upper}
@@ -122,7 +122,7 @@ text_or_none (Err status) = []
 
 -- What the command prints where nothing is refused: of `run` the printed log of the application, of a conversion its text.
 unfoldable pub output : Files → Command → List ℕ
-output files (run app events) = printed_log (log_of (application_of (app_texts files app)))
+output files (run app events) = printed_log (log_of (application_spelled (app_texts files app)))
 output files (convert conversion file) = option_map_or (λ bytes. text_or_none (converted conversion file bytes)) (files file) []
 
 -- the answer of a command

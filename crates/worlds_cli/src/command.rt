@@ -113,7 +113,7 @@ fn play<F: Folder, K: Sink>(
         Ok(read) => read,
         Err(refusal) => return refuse(alloc, refusal, sink),
     };
-    match write_log(alloc, read, sink) {
+    match write_log(alloc, &read, sink) {
         Ok(()) => {}
         Err(status) => return status,
     }

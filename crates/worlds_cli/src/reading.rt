@@ -1,7 +1,7 @@
 //! The files of a command: read, or refused.
 ghost use Rattle.std.specs.Prelude.{◌≡◌, ◌≤◌, ◌<◌, List, ℕ, Option, Some, None, Ok, Err, length, option_map, IfOk, IfErr, IfSome, OnOk, string_bytes};
 ghost use Rattle.app_engine.specs.Log.{log_of};
-ghost use Rattle.app_engine.specs.Scripts.{application_of};
+ghost use Rattle.app_engine.specs.Scripts.{application_spelled};
 ghost use Rattle.app_manifest.specs.Clauses.{texts_of};
 ghost use Rattle.event_script.specs.Script.{script};
 ghost use Rattle.wl_causes.specs.Causes.{Rose};
@@ -34,7 +34,7 @@ pub fn read_run<F: Folder>(
 ) -> Result<App, Status>
     ensures later { F.faults folder.old ≤ F.faults folder.new }
     ensures ok { IfOk result (λ read. IfSome (F.files folder.old)
-        (λ files. answer_to files (run app.now script.now) ≡ Ok (printed_log (log_of (application_of (texts_of read)))))) }
+        (λ files. answer_to files (run app.now script.now) ≡ Ok (printed_log (log_of (application_spelled (texts_of read)))))) }
     ensures err { IfErr result (Stops (F.files folder.old) (run app.now script.now) (Rose (F.faults folder.old) (F.faults folder.new))) }
 {
     let read = match read_app(alloc, folder, app) {

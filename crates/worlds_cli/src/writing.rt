@@ -3,7 +3,7 @@ ghost use Rattle.std.specs.Prelude.{◌≡◌, ◌≤◌, ◌++◌, ◌∷◌, [
 ghost use Rattle.wl_causes.specs.Causes.{Rose};
 ghost use Rattle.wl_causes.specs.Taking.{with_more, TakesFront};
 ghost use Rattle.app_engine.specs.Log.{log_of};
-ghost use Rattle.app_engine.specs.Scripts.{application_of};
+ghost use Rattle.app_engine.specs.Scripts.{application_spelled};
 ghost use Rattle.app_manifest.specs.Clauses.{texts_of};
 ghost use Rattle.world_log.specs.Print.{printed_log};
 ghost use Rattle.worlds_cli.specs.Clauses.{IsOfWriting};
@@ -18,17 +18,19 @@ use v8_wire::WireKind;
 use wl_causes::{Sink, write_whole};
 
 /// Plays an application, and writes its printed log, each line as soon as it is made.
-pub fn write_log<K: Sink>(alloc: Global, app: App, sink: &mut K) -> Result<(), Status>
-    ensures ok { OnOk result (K.taken sink.new ≡ with_more (printed_log (log_of (application_of (texts_of app)))) (K.taken sink.old)) }
-    ensures front { TakesFront (printed_log (log_of (application_of (texts_of app)))) (K.taken sink.old) (K.taken sink.new) }
+pub fn write_log<K: Sink>(alloc: Global, app: &App, sink: &mut K) -> Result<(), Status>
+    ensures ok { OnOk result (K.taken sink.new ≡ with_more (printed_log (log_of (application_spelled (texts_of app.now)))) (K.taken sink.old)) }
+    ensures front { TakesFront (printed_log (log_of (application_spelled (texts_of app.now)))) (K.taken sink.old) (K.taken sink.new) }
     ensures err { IfErr result (IsOfWriting (Rose (K.faults sink.old) (K.faults sink.new))) }
     ensures later { K.faults sink.old ≤ K.faults sink.new }
 {
     match play(alloc, app, sink) {
-        Ok(()) => Ok(()),
-        Err(PlayFault::Memory) => Err(Status::Memory),
-        Err(PlayFault::Sink) => Err(Status::SinkFault),
+        Ok(_) => {}
+        Err(PlayFault::Memory) => return Err(Status::Memory),
+        Err(PlayFault::Dangling) => return Err(Status::Memory),
+        Err(PlayFault::Sink) => return Err(Status::SinkFault),
     }
+    Ok(())
 }
 
 /// Writes the line that tells a refusal.
