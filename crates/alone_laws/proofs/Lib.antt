@@ -5,3 +5,4 @@ pub mod OrderlyObjects
 pub mod OrderlyStatements
 pub mod OrderlyRows
 pub mod Turning
+pub mod Sizing

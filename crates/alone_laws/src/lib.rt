@@ -3,4 +3,4 @@
 
 mod laws;
 
-pub use laws::yielding;
+pub use laws::{one_size, yielding};

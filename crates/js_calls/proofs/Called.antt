@@ -1,6 +1,5 @@
 -- How calls are put together.
 use Rattle.std.proofs.Common.{◌≡◌, ℕ, ◌+◌, ◌≤◌, ◌<◌, List, [], ◌∷◌, ◌++◌, Option, Some, None, true, false, if◌then◌else◌, IfOk, Result, Ok, Err, nat_lt, refl, sym, ap, subst, ◌∙◌, arith}
-use mathlib.Core.Path.{fun_ext}
 use Rattle.std.specs.Prelude.{slice_get, unwrap_or}
 use Rattle.std.proofs.lemmas.Result.{IfOk-weaker}
 use Rattle.std.proofs.lemmas.Bool.Decides.{nat_tests}
@@ -17,7 +16,6 @@ use Rattle.world_log.specs.declared.entry.Product.TheVariants.{Stopped}
 use Rattle.world_log.specs.declared.entry.Stop.{Stop}
 use Rattle.js_semantics.specs.declared.scope.Scope.{Scope}
 use Rattle.js_semantics.specs.declared.outcome.Outcome.{Outcome}
-use Rattle.js_semantics.specs.declared.outcome.Outcome.TheVariants.{Normal, Return, Break, Continue, Thrown}
 use Rattle.js_semantics.specs.World.{World, cell_of, over}
 use Rattle.js_semantics.specs.Prog.{Prog, Cont, Over, End, Enter, Write, Native as NativeRequest, Node as NodeRequest, alloc, bind, give, on_value, throw}
 use Rattle.js_semantics.specs.Access.{activate, bind_parameters, call, call_cell, function_of, invoke, leave, patterns_of, run_body, run_function}
@@ -34,24 +32,17 @@ use Rattle.js_machine.specs.declared.state.Next.TheVariants.{Made}
 use Rattle.js_machine.specs.Frames.{after_rest, parameters_rest, rest, under}
 use Rattle.js_machine.specs.Parts.{body_in, body_node, parameters_from, parameters_in, rest_in, rest_parameter}
 use Rattle.js_machine.specs.Does.{world_of, budget_of, stack_rest, under_frame, weight, weights, left, Allocates, Does, Moves}
-use Rattle.js_machine.proofs.Doing.{allowing_ok, does_move_ok, does_read, does_read_ok, under_push, weights_push}
+use Rattle.js_machine.proofs.Doing.{after_most, allowing_ok, does_move_ok, does_read, does_read_ok, passed, under_push, weights_push}
 use Rattle.js_machine.proofs.Allocating.{does_alloc_ok, not_alloc}
 use Rattle.js_calls.specs.declared.callee.Callee.{Callee}
 use Rattle.js_calls.specs.declared.callee.Callee.TheVariants as callees
 use Rattle.js_calls.specs.Callees.{callee_in}
 use Rattle.js_calls.specs.Calling.{after_frame, allowance, by_callee, call_frames, ending}
 
-given : (o : Outcome ℕ) → on_value (λ v. give v) o ≡ End o
-given (Normal v) = refl
-given (Return v) = refl
-given Break = refl
-given Continue = refl
-given (Thrown v) = refl
-
 -- what is done with a value is what the frame of it leaves
 pub ended : (nodes : List Node) (frame : Option (AfterFrame ℕ)) → ◌≡◌ {A = Cont ℕ} (on_value (ending nodes frame)) (λ o. under_frame nodes (after_frame frame) o)
 unfolding ending
-ended nodes None = fun_ext given
+ended nodes None = passed
 ended nodes (Some frame) = refl
 
 under_two : (nodes : List Node) (k : Cont ℕ) (fs : List (Frame ℕ)) (f g : Frame ℕ) → under nodes k (fs ++ f ∷ g ∷ []) ≡ (λ o. bind (rest nodes g o) (λ p. bind (rest nodes f p) (under nodes k fs)))
@@ -193,18 +184,6 @@ none_allowed n h = omega arith
 pub light_allowed : (frame : AfterFrame ℕ) → weight (frames.After frame) ≤ 1 → allowance (Some frame) ≤ 4
 unfolding allowance
 light_allowed frame h = omega arith
-
-after_most : (f : AfterFrame ℕ) → weight (frames.After f) ≤ 3
-after_most afters.Give = omega arith
-after_most (afters.Result value) = omega arith
-after_most (afters.Constructed object) = omega arith
-after_most afters.Typeof = omega arith
-after_most (afters.Update operator before place) = omega arith
-after_most (afters.AssignBy operator value place scope) = omega arith
-after_most (afters.Callee node base scope) = omega arith
-after_most (afters.Instance x) = omega arith
-after_most (afters.AssignInstance x place) = omega arith
-after_most (afters.PropertyRead node at of scope) = omega arith
 
 pub some_allowed : (frame : AfterFrame ℕ) → allowance (Some frame) ≤ 6
 unfolding allowance

@@ -107,6 +107,6 @@ module _ (nodes : List Node) (arguments : List (Value ℕ)) where
 
 -- an object that was returned takes the place of the new one
 pub constructed_ok : (nodes : List Node) (object : ℕ) (v made : Value ℕ) (old new : State) (r : Result Next StepFault) → ((supply : ℕ → ℕ) → made ≡ constructed object v (world_of nodes supply old))
-    → IfOk r (λ next. Does nodes 4 (give made) old new next) → IfOk r (λ next. Does nodes 4 (after_rest nodes (afters.Constructed object) v) old new next)
+    → IfOk r (λ next. Does nodes 2 (give made) old new next) → IfOk r (λ next. Does nodes 2 (after_rest nodes (afters.Constructed object) v) old new next)
 constructed_ok nodes object v made old new r is =
-    does_read_ok nodes 4 (λ w. give (constructed object v w)) (give made) old new r (λ supply. sym (ap (λ x. give x) (is supply)))
+    does_read_ok nodes 2 (λ w. give (constructed object v w)) (give made) old new r (λ supply. sym (ap (λ x. give x) (is supply)))

@@ -26,7 +26,7 @@ use Rattle.js_machine.specs.Frames.{call_rest, parameter_rest, parameters_rest}
 use Rattle.js_machine.specs.Parts.{body_node, parameters_from, rest_parameter}
 use Rattle.js_machine.proofs.Doing.{does_read, does_read_ok}
 use Rattle.js_machine.proofs.Allocating.{does_alloc_ok, not_alloc}
-use Rattle.js_calls.specs.Defaults.{DefaultsTo}
+use Rattle.js_machine.specs.Defaults.{DefaultsTo}
 
 rest_drop-suc : {L : Type 0} (xs : List (Value L)) (i : ℕ) → rest_of (drop i xs) ≡ drop (suc i) xs
 rest_drop-suc [] zero = refl

@@ -1,9 +1,8 @@
-mod Lists
 mod Defaulted
 mod Called
 mod Constructed
 mod Reading
 mod Joining
 mod Storing
-mod Lookups
+pub mod Lookups
 mod Rebinding

@@ -46,7 +46,8 @@ within [] (suc i) = let e : nat_lt (suc i) 0 ≡ false = grind (arith, nat_tests
 within (x ∷ xs) zero = let e : nat_lt 0 (suc (length xs)) ≡ true = grind (arith, nat_tests) in sym e
 within (x ∷ xs) (suc i) = within xs i ∙ sym (lt_suc i (length xs))
 
-unless_length : (text key : List ℕ) → is_some (if is_length key then None else text_unit text key) ≡ is_some (text_unit text key)
+-- the length is no unit
+pub unless_length : (text key : List ℕ) → is_some (if is_length key then None else text_unit text key) ≡ is_some (text_unit text key)
 unless_length text key = go (is_length key) refl
   where
     go : (b : Bool) → is_length key ≡ b → is_some (if b then None else text_unit text key) ≡ is_some (text_unit text key)
@@ -57,16 +58,15 @@ mapped : {A B : Type 0} (f : A → B) (o : Option A) → is_some (option_map f o
 mapped f None = refl
 mapped f (Some x) = refl
 
--- whether a text has a unit under a key
-pub unit_under : (text key : List ℕ) (i : ℕ) → index_of key ≡ Some i → is_some (made_of {L = ℕ} (Str text) key) ≡ nat_lt i (length text)
-unit_under text key i e =
-    unless_length text key
-    ∙ mapped (λ u. u ∷ []) (option_and_then (slice_get text) (index_of key))
-    ∙ ap (λ o. is_some (option_and_then (slice_get text) o)) e
-    ∙ within text i
+unit_at : (text key : List ℕ) (o : Option ℕ) → index_of key ≡ o → is_some (text_unit text key) ≡ is_some (option_and_then (slice_get text) o)
+unit_at text key o e = mapped (λ u. u ∷ []) (option_and_then (slice_get text) (index_of key)) ∙ ap (λ i. is_some (option_and_then (slice_get text) i)) e
 
-pub no_unit : (text key : List ℕ) → index_of key ≡ None → is_some (made_of {L = ℕ} (Str text) key) ≡ false
-no_unit text key e = unless_length text key ∙ ap (λ o. is_some (option_map (λ u. u ∷ []) (option_and_then (slice_get text) o))) e
+-- whether a text has a unit under a key
+pub unit_under : (text key : List ℕ) (i : ℕ) → index_of key ≡ Some i → is_some (text_unit text key) ≡ nat_lt i (length text)
+unit_under text key i e = unit_at text key (Some i) e ∙ within text i
+
+pub no_unit : (text key : List ℕ) → index_of key ≡ None → is_some (text_unit text key) ≡ false
+no_unit text key e = unit_at text key None e
 
 one_unit : (o : Option ℕ) (t : List ℕ) → option_map (λ u. u ∷ []) o ≡ Some t → length t ≡ 1
 one_unit None t h = absurd (cc)

@@ -1,14 +1,12 @@
 -- How the writing of a property is put together.
-use Rattle.std.proofs.Common.{◌≡◌, ◌≢◌, ℕ, suc, ◌+◌, ◌*◌, ◌-◌, ◌≤◌, ◌<◌, List, [], ◌∷◌, Some, None, Bool, true, false, if◌then◌else◌, IfOk, Result, Ok, Err, nat_lt, nat_eq, refl, sym, ap, ◌∙◌, arith}
-use Rattle.std.proofs.lemmas.Bool.Decides.{nat_tests}
+use Rattle.std.proofs.Common.{◌≡◌, ◌≢◌, ℕ, ◌+◌, ◌*◌, ◌-◌, ◌≤◌, List, [], ◌∷◌, Some, true, false, if◌then◌else◌, IfOk, Result, Ok, Err, nat_eq, refl, sym, ap, ◌∙◌, arith}
 use Rattle.world_heap.specs.declared.value.Value.{Value}
 use Rattle.world_heap.specs.declared.value.Value.TheVariants.{Ref}
 use Rattle.world_heap.specs.declared.cell.Cell.{Cell}
-use Rattle.world_heap.specs.declared.limits.Counts.{Counts}
-use Rattle.world_heap.specs.declared.limits.Full.TheVariants.{Places as FullPlaces, Units as FullUnits}
+use Rattle.world_heap.specs.declared.limits.Full.TheVariants.{Places as FullPlaces}
 use Rattle.world_heap.specs.Growth.{first_passed, grown}
-use Rattle.world_heap.specs.Maps.{find, keys, put}
-use Rattle.world_heap.specs.Views.{Bounds, HeapView}
+use Rattle.world_heap.specs.Maps.{find, put}
+use Rattle.world_heap.specs.Views.{HeapView}
 use Rattle.proto_props.specs.declared.outcome.SetDone.{SetDone}
 use Rattle.proto_props.specs.declared.outcome.SetDone.TheVariants as done
 use Rattle.proto_props.specs.Changes.{Change, Rewrites, Extends, Stays, CallsSetter, Refuses}
@@ -31,36 +29,11 @@ use Rattle.js_machine.specs.declared.state.State.{State}
 use Rattle.js_machine.specs.declared.state.Control.TheVariants as controls
 use Rattle.js_machine.specs.declared.state.Next.{Next}
 use Rattle.js_machine.specs.declared.state.Next.TheVariants.{Made}
-use Rattle.js_machine.specs.Does.{Follows, budget_of, world_of, stack_rest, to_come, after, weights, work, left, Does, Moves}
+use Rattle.js_machine.specs.Does.{budget_of, world_of, stack_rest, to_come, after, weights, work, left, Does, Moves}
+use Rattle.js_machine.proofs.Changing.{follows_keys, passed_none, passed_places}
 use Rattle.js_machine.proofs.Doing.{does_move_ok, does_read, does_read_ok, moves_by}
 use Rattle.js_calls.specs.Writing.{Written, change_of, set_next}
 use Rattle.js_calls.proofs.Joining.{set_same}
-
--- the same locations follow the supply
-pub follows_keys : (supply : ℕ → ℕ) (n : ℕ) (xs ys : List (ℕ × Cell ℕ)) → keys xs ≡ keys ys → Follows supply n xs → Follows supply n ys
-follows_keys supply n [] [] e f = tt
-follows_keys supply n [] (y ∷ ys) e f = absurd (cc)
-follows_keys supply n (x ∷ xs) [] e f = absurd (cc)
-follows_keys supply n (x ∷ xs) (y ∷ ys) e f =
-    let first : x.0 ≡ y.0 = cc in
-    let others : keys xs ≡ keys ys = cc in
-    (sym first ∙ f.0, follows_keys supply (suc n) xs ys others f.1)
-
-passed : (b : Bounds) (c : Counts) → first_passed b (grown c 0 1 0) ≡ None → c.places + 1 ≤ b.places
-passed b c h = go (nat_lt b.places (c.places + 1)) refl (nat_lt b.units (c.units + 0)) h
-  where
-    go : (x : Bool) → nat_lt b.places (c.places + 1) ≡ x → (y : Bool) → (if x then Some FullPlaces else if y then Some FullUnits else None) ≡ None → c.places + 1 ≤ b.places
-    go true e y k = absurd (cc)
-    go false e true k = absurd (cc)
-    go false e false k = grind (arith, nat_tests)
-
-full_places : (b : Bounds) (c : Counts) → first_passed b (grown c 0 1 0) ≡ Some FullPlaces → b.places < c.places + 1
-full_places b c h = go (nat_lt b.places (c.places + 1)) refl (nat_lt b.units (c.units + 0)) h
-  where
-    go : (x : Bool) → nat_lt b.places (c.places + 1) ≡ x → (y : Bool) → (if x then Some FullPlaces else if y then Some FullUnits else None) ≡ Some FullPlaces → b.places < c.places + 1
-    go true e y k = grind (arith, nat_tests)
-    go false e true k = absurd (cc)
-    go false e false k = absurd (cc)
 
 -- a property is written, or a setter or an error comes next
 pub moves_set : (nodes : List Node) (change : Change ℕ) (of v : Value ℕ) (p : Prog ℕ) (old mid : State) (what : SetDone ℕ) → Written change old mid (Ok what) → Moves nodes (carry_out (change_of change) of v p) old (set_next what of v p) mid
@@ -78,7 +51,7 @@ moves_set nodes (Rewrites loc cell) of v p old mid what ((what_is, heap_is), kep
 moves_set nodes (Extends loc cell) of v p old mid what ((room, what_is, heap_is), kept, is) =
     let wrote : HeapView = record old.heap { cells = put nat_eq old.heap.cells loc cell; counts = grown old.heap.counts 0 1 0 } in
     let whole : mid ≡ record old { heap = wrote } = is ∙ ap (λ (h : HeapView). record old { heap = h }) heap_is in
-    let fits = passed old.heap.limits old.heap.counts room in
+    let fits = passed_none old.heap.limits (grown old.heap.counts 0 1 0) room in
     let some : (budget_of old).places ≢ 0 = λ z. absurd (omega arith) in
     let place : old.heap.limits.places - (old.heap.counts.places + 1) ≡ old.heap.limits.places - old.heap.counts.places - 1 = omega arith in
     let unit : old.heap.counts.units + 0 ≡ old.heap.counts.units = omega arith in
@@ -113,7 +86,7 @@ not_extended : (nodes : List Node) (n : ℕ) (loc : ℕ) (cell : Cell ℕ) (p : 
     → Does nodes n (Place (Read (λ u. Write (with_cell loc cell u) p))) old new (Made (Stopped stops.Places))
 unfolding run
 not_extended nodes n loc cell p old new some room is =
-    let above = full_places old.heap.limits old.heap.counts room in
+    let above = passed_places old.heap.limits (grown old.heap.counts 0 1 0) room in
     let none : (budget_of old).places ≡ 0 = omega arith in
     record {
       law = λ supply ds follows.

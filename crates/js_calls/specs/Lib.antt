@@ -1,5 +1,4 @@
 pub mod Callees
-pub mod Defaults
 pub mod Calling
 pub mod Constructing
 pub mod Reading

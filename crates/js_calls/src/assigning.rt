@@ -9,9 +9,8 @@ ghost use Rattle.js_machine.specs.Does.{Does, world_of};
 ghost use Rattle.js_calls.specs.Assigning.{binding_target, target_of, write_by};
 
 use crate::naming::global_holder;
-use crate::scopes::discard;
 use crate::setting::set;
-use js_machine::{Next, State};
+use js_machine::{Next, State, discard};
 use js_names::{bind_in, binding_of};
 use js_semantics::{Fault, Outcome, StepFault};
 use js_tree::Tree;

@@ -6,13 +6,13 @@ ghost use Rattle.js_names.specs.Patterns.{nodes_of};
 ghost use Rattle.js_semantics.specs.Prog.{Bind, Enter, eval, on_value};
 ghost use Rattle.js_semantics.specs.Access.{bind_value, first_of};
 ghost use Rattle.js_machine.specs.Does.{Does};
-ghost use Rattle.js_machine.specs.Frames.{call_rest, parameter_rest, parameters_rest};
+ghost use Rattle.js_machine.specs.Frames.{call_rest, parameters_rest};
 ghost use Rattle.js_machine.specs.Parts.{parameters_from, rest_parameter};
-ghost use Rattle.js_calls.specs.Defaults.{DefaultsTo};
 
 use crate::functions::{body_of, parameter_at, rest_parameter};
-use crate::scopes::copy_scope;
-use js_machine::{CallFrame, Frame, Next, State, ValueFrame, stopped};
+use js_machine::{
+    CallFrame, Frame, Next, State, ValueFrame, copy_scope, copy_values, default_of, stopped,
+};
 use js_semantics::{Outcome, Scope, StepFault};
 use js_tree::{BindElement, NodeId, Tree};
 use sqlite_items::Items;
@@ -61,20 +61,8 @@ fn argument_at(alloc: Global, arguments: &Items<Value>, at: usize) -> Result<Val
     }
 }
 
-// The same values again.
-fn copy_values(alloc: Global, values: &[Value]) -> Result<Items<Value>, StepFault>
-    ensures { IfOk result (λ copies. copies ≡ values.now) }
-{
-    let mut copies = Items::new(alloc);
-    'values: for value in values {
-        let copy = value.copy(alloc)?;
-        copies.push(copy)?;
-    }
-    Ok(copies)
-}
-
 // The arguments from a place on. The cost is linear in them.
-#[tactic(auto, using(crate::proofs::Lists::drop_none, crate::proofs::Lists::drop_rest))]
+#[tactic(auto, using(js_machine::proofs::Lists::drop_none, std::proofs::lemmas::List::take_rest))]
 fn arguments_from(
     alloc: Global,
     arguments: &Items<Value>,
@@ -86,17 +74,6 @@ fn arguments_from(
         copy_values(alloc, &arguments.as_slice()[at..])
     } else {
         Ok(Items::new(alloc))
-    }
-}
-
-// What is evaluated for a parameter in place of its argument: the default, where the argument is undefined.
-#[tactic(auto, unfolding(js_semantics::specs::Access::or_default))]
-fn default_for(default: Option<NodeId>, value: &Value) -> Option<NodeId>
-    ensures { DefaultsTo default value.now result }
-{
-    match value {
-        Value::Undefined => default,
-        _ => None,
     }
 }
 
@@ -137,7 +114,7 @@ fn parameter(
         → IfOk result (λ next_is. Does nodes 2 (parameters_rest nodes node at arguments scope) state.old state.new next_is) }
 {
     let value = argument_at(state.alloc, &arguments, at)?;
-    match default_for(element.default, &value) {
+    match default_of(&value, element.default) {
         Some(default) => {
             let inner = copy_scope(state.alloc, &scope)?;
             let frame = CallFrame::ParameterDefault {

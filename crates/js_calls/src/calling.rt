@@ -1,5 +1,5 @@
 //! Calls of functions (ECMA-262, 7.3.14: Call; 10.2.1: calls of closures).
-ghost use Rattle.std.specs.Prelude.{◌≡◌, ◌≤◌, ◌<◌, ◌++◌, ℕ, List, IfOk, OnOk, Option, Some, slice_get, unwrap_or};
+ghost use Rattle.std.specs.Prelude.{◌≡◌, ◌≤◌, ◌<◌, ◌++◌, ℕ, IfOk, OnOk, Option, Some, slice_get, unwrap_or};
 ghost use Rattle.js_tree.specs.declared.node.Node as kind;
 ghost use Rattle.js_names.specs.Patterns.{nodes_of};
 ghost use Rattle.js_semantics.specs.Prog.{bind, give, on_value};
@@ -11,8 +11,7 @@ ghost use Rattle.js_calls.specs.Calling.{after_frame, allowance, by_callee, call
 use crate::binding::parameters;
 use crate::callee::{Callee, callee_of};
 use crate::functions::function_at;
-use crate::scopes::discard;
-use js_machine::{AfterFrame, Frame, Next, State, stopped};
+use js_machine::{AfterFrame, Frame, Next, State, discard, stopped};
 use js_names::parameters_of;
 use js_semantics::{Fault, Scope, StepFault};
 use js_tree::{Function, NodeId, Tree};

@@ -15,9 +15,7 @@ ghost use Rattle.js_calls.specs.Constructing.{closure_maker, construct_by, const
 
 use crate::calling::{Invocation, invoke};
 use crate::functions::is_constructor;
-use crate::scopes::discard;
-use crate::setting::is_symbol_at;
-use js_machine::{AfterFrame, Next, State, stopped};
+use js_machine::{AfterFrame, Next, State, discard, object_of, stopped};
 use js_operators::short_text;
 use js_semantics::{Fault, Native, Outcome, StepFault};
 use js_tree::{NodeId, Tree};
@@ -30,22 +28,6 @@ pub enum Constructor<L = Loc> {
     Closure { node: u32, env: L },
     Native { id: u16 },
     Nothing,
-}
-
-// The location of the object that a value is; a symbol is none.
-fn object_of(heap: &Heap, value: &Value) -> Option<Loc>
-    ensures { (w : World ℕ) → result ≡ object_of value.now (over heap.now w) }
-{
-    match value {
-        Value::Ref(loc) => {
-            if is_symbol_at(heap, *loc) {
-                None
-            } else {
-                Some(*loc)
-            }
-        }
-        _ => None,
-    }
 }
 
 // The prototype of the objects that a function makes (ECMA-262, 10.1.14: GetPrototypeFromConstructor), from what stands
@@ -221,7 +203,7 @@ fn constructed(heap: &Heap, object: Loc, value: &Value) -> Value
 /// The function that `new` called on a new object has returned a value (ECMA-262, 10.2.2): an object takes the place of
 /// the new one, and any other value is let go. It is never a fault.
 pub fn after_constructed(state: &mut State, object: Loc, value: Value) -> Result<Next, StepFault>
-    ensures { (nodes : List kind.Node) → IfOk result (λ next. Does nodes 4 (after_rest nodes (AfterFrame.Constructed object) value) state.old state.new next) }
+    ensures { (nodes : List kind.Node) → IfOk result (λ next. Does nodes 2 (after_rest nodes (AfterFrame.Constructed object) value) state.old state.new next) }
 {
     let made = constructed(&state.heap, object, &value);
     discard(value);

@@ -5,19 +5,8 @@ ghost use Rattle.js_semantics.specs.Access.{function_of};
 ghost use Rattle.js_semantics.specs.Objects.{is_constructor};
 ghost use Rattle.js_machine.specs.Parts.{body_node, parameters_from, rest_parameter};
 
+use js_machine::{next_of, node_at};
 use js_tree::{BindElement, Function, Node, NodeId, Tree};
-
-// The node with a number, where it stands.
-#[tactic(auto, using(crate::proofs::Lists::node_some, crate::proofs::Lists::node_none))]
-fn node_at(tree: &Tree, id: NodeId) -> Option<&Node>
-    ensures { MatchOption result (slice_get (nodes_of tree.now) id.0 ≡ None) (λ node. slice_get (nodes_of tree.now) id.0 ≡ Some node.now) }
-{
-    if id.0 < tree.len() {
-        Some(tree.node(id))
-    } else {
-        None
-    }
-}
 
 // The function of a node.
 #[tactic(auto, unfolding(js_semantics::specs::Access::function_of))]
@@ -60,18 +49,6 @@ pub fn is_constructor(tree: &Tree, node: NodeId) -> bool
     match node_at(tree, node) {
         Some(node) => makes_constructors(node),
         None => false,
-    }
-}
-
-// What stands at a place of a list, and the place behind it.
-#[tactic(auto, using(crate::proofs::Lists::drop_some, crate::proofs::Lists::drop_none))]
-fn next_of<T: Copy>(list: &[T], at: usize) -> Option<(T, usize)>
-    ensures { MatchOption result (drop at list.now ≡ []) (λ found. (drop at list.now ≡ found.0 ∷ drop found.1 list.now) × (found.1 ≡ at + 1)) }
-{
-    if at < list.len() {
-        Some((list[at], at + 1))
-    } else {
-        None
     }
 }
 

@@ -9,7 +9,6 @@ mod constructing;
 mod functions;
 mod naming;
 mod property;
-mod scopes;
 mod setting;
 
 pub use assigning::write_name;
@@ -19,6 +18,5 @@ pub use calling::{call_last, call_over};
 pub use constructing::{after_constructed, construct};
 pub use functions::function_at;
 pub use naming::{Named, meaning_of, read_name};
-pub use property::get;
-pub use scopes::copy_scope;
+pub use property::{get, has_unit};
 pub use setting::set;

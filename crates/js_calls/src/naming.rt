@@ -9,9 +9,8 @@ ghost use Rattle.js_machine.specs.Does.{Does, world_of};
 ghost use Rattle.js_machine.specs.Frames.{after_rest};
 ghost use Rattle.js_calls.specs.Naming.{named, read_by, value_named};
 
-use crate::property::{get, is_cell};
-use crate::scopes::discard;
-use js_machine::{AfterFrame, Next, State};
+use crate::property::get;
+use js_machine::{AfterFrame, Next, State, discard, is_cell};
 use js_names::binding_of;
 use js_semantics::{Fault, StepFault};
 use js_tree::Tree;

@@ -1,9 +1,9 @@
 //! Reading a property of a value, with the getter that it may call (ECMA-262, 7.3.2: Get; 10.1.8).
-ghost use Rattle.std.specs.Prelude.{◌≡◌, ℕ, [], true, List, IfOk, is_some, nat_eq};
+ghost use Rattle.std.specs.Prelude.{◌≡◌, true, List, IfOk, is_some, nat_eq};
 ghost use Rattle.js_tree.specs.declared.node.Node as kind;
 ghost use Rattle.world_heap.specs.Heaps.{IsCell};
 ghost use Rattle.world_heap.specs.Over.{ValueOver};
-ghost use Rattle.proto_props.specs.Gets.{gets};
+ghost use Rattle.proto_props.specs.Gets.{gets, text_unit};
 ghost use Rattle.js_names.specs.Patterns.{nodes_of};
 ghost use Rattle.js_semantics.specs.Access.{get, take_up};
 ghost use Rattle.js_semantics.specs.Properties.{made_of};
@@ -12,26 +12,15 @@ ghost use Rattle.js_machine.specs.Frames.{after_rest};
 ghost use Rattle.js_calls.specs.Reading.{made_value};
 
 use crate::calling::call_over;
-use crate::scopes::discard;
-use js_machine::{AfterFrame, Next, State, stopped};
+use js_machine::{AfterFrame, Next, State, discard, is_cell, stopped};
 use js_semantics::{Fault, StepFault};
 use js_tree::Tree;
 use proto_props::{Got, get_step};
 use sqlite_items::Items;
 use std::alloc::Global;
 use wl_text::{Units, index_of};
-use world_heap::{Heap, Loc, Value};
+use world_heap::{Heap, Value};
 use world_log::Stop;
-
-/// Whether a location is that of a cell.
-pub fn is_cell(heap: &Heap, loc: Loc) -> bool
-    ensures { result ≡ true → IsCell nat_eq heap.now.cells loc }
-{
-    match heap.get(loc) {
-        Some(_) => true,
-        None => false,
-    }
-}
 
 // Whether a value's location stands, and its number is one of a script.
 fn stands(heap: &Heap, value: &Value) -> bool
@@ -57,10 +46,10 @@ fn look(alloc: Global, heap: &Heap, of: &Value, key: &Units) -> Result<Got, Step
     }
 }
 
-// Whether a text has a unit under a key.
+/// Whether a text has a unit under a key (ECMA-262, 10.4.3.5: StringGetOwnProperty). The cost is linear in the key.
 #[tactic(auto, using(crate::proofs::Reading::unit_under, crate::proofs::Reading::no_unit))]
-fn has_unit(text: &Units, key: &Units) -> bool
-    ensures { result ≡ is_some (made_of {L = ℕ} (Value.Str text.now) key.now) }
+pub fn has_unit(text: &Units, key: &Units) -> bool
+    ensures { result ≡ is_some (text_unit text.now key.now) }
 {
     match index_of(key) {
         Some(index) => (index as usize) < text.len(),
@@ -69,6 +58,7 @@ fn has_unit(text: &Units, key: &Units) -> bool
 }
 
 // Whether reading a property makes a text of one unit.
+#[tactic(auto, using(crate::proofs::Reading::unless_length))]
 fn makes_unit(of: &Value, key: &Units) -> bool
     ensures { result ≡ is_some (made_of of.now key.now) }
 {

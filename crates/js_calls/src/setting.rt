@@ -1,8 +1,6 @@
 //! Writing a property of a value, with the setter that it may call (ECMA-262, 7.3.4: Set; 10.1.9).
-ghost use Rattle.std.specs.Prelude.{◌≡◌, true, false, List, IfOk, IfSome, Some, nat_eq};
-ghost use Rattle.world_heap.specs.Heaps.{IsNoEnv};
+ghost use Rattle.std.specs.Prelude.{◌≡◌, false, List, IfOk, IfSome, Some, nat_eq};
 ghost use Rattle.world_heap.specs.Maps.{find};
-ghost use Rattle.world_heap.specs.Over.{ValueOver};
 ghost use Rattle.proto_props.specs.Sets.{sets};
 ghost use Rattle.js_names.specs.Patterns.{nodes_of};
 ghost use Rattle.js_tree.specs.declared.node.Node as kind;
@@ -13,16 +11,13 @@ ghost use Rattle.js_machine.specs.Does.{Does};
 ghost use Rattle.js_calls.specs.Writing.{Written, fault_for, set_next};
 
 use crate::calling::call_over;
-use crate::property::is_cell;
-use crate::scopes::discard;
-use js_machine::{AfterFrame, Control, Next, State, stopped};
+use js_machine::{AfterFrame, Control, Next, State, discard, is_cell, is_fit, is_symbol, stopped};
 use js_semantics::{Fault, Outcome, StepFault};
 use js_tree::Tree;
 use proto_props::{Refusal, SetDone, set_step};
 use sqlite_items::Items;
-use std::alloc::Global;
 use wl_text::Units;
-use world_heap::{Cell, Heap, HeapFault, Loc, Value};
+use world_heap::{Heap, HeapFault, Loc, Value};
 use world_log::Stop;
 
 // The error of the language for a refusal.
@@ -36,46 +31,6 @@ fn fault_for(refusal: Refusal) -> Fault
         Refusal::NotExtensible => Fault::ReadOnly,
         Refusal::Hole => Fault::NoHoles,
         Refusal::Named => Fault::ReadOnly,
-    }
-}
-
-// Whether a location is that of a cell that is no environment.
-fn is_object(heap: &Heap, loc: Loc) -> bool
-    ensures { result ≡ true → IsNoEnv nat_eq heap.now.cells loc }
-{
-    match heap.get(loc) {
-        Some(cell) => !matches!(cell, Cell::Env { .. }),
-        None => false,
-    }
-}
-
-// Whether a value may stand in a cell.
-fn is_fit(heap: &Heap, value: &Value) -> bool
-    ensures { result ≡ true → ValueOver (IsNoEnv nat_eq heap.now.cells) value.now }
-{
-    match value {
-        Value::Num(number) => {
-            *number >= -9_007_199_254_740_991 && *number <= 9_007_199_254_740_991
-        }
-        Value::Ref(loc) => is_object(heap, *loc),
-        Value::Undefined | Value::Null | Value::Bool(_) | Value::Str(_) => true,
-    }
-}
-
-// Whether a cell is a symbol, which is no object.
-fn is_symbol(cell: &Cell) -> bool
-    ensures { result ≡ is_symbol (Some cell.now) }
-{
-    matches!(cell, Cell::Symbol { .. })
-}
-
-/// Whether a symbol stands at a location.
-pub fn is_symbol_at(heap: &Heap, loc: Loc) -> bool
-    ensures { result ≡ is_symbol (find nat_eq heap.now.cells loc) }
-{
-    match heap.get(loc) {
-        Some(cell) => is_symbol(cell),
-        None => false,
     }
 }
 

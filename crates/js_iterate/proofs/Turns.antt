@@ -1,5 +1,5 @@
 -- How an array that is walked is filled, one item after another.
-use Rattle.std.proofs.Common.{◌≡◌, ℕ, suc, zero, ◌+◌, ◌-◌, ◌≤◌, ◌<◌, List, [], ◌∷◌, length, take, drop, get_or, true, false, if◌then◌else◌, Option, Some, None, Result, Ok, Err, IfOk, refl, sym, ap, subst, ◌∙◌, arith, add-one}
+use Rattle.std.proofs.Common.{◌≡◌, ℕ, ◌+◌, ◌-◌, ◌≤◌, ◌<◌, List, [], ◌∷◌, length, take, drop, get_or, true, false, if◌then◌else◌, Option, Some, None, Result, Ok, Err, IfOk, refl, sym, ap, subst, ◌∙◌, arith}
 use Rattle.std.proofs.lemmas.Bool.Decides.{nat_tests}
 use Rattle.std.specs.Prelude.{nat_lt}
 use Rattle.js_tree.specs.declared.node.Node.{Node}
@@ -24,26 +24,9 @@ use Rattle.js_machine.specs.declared.state.Next.{Next}
 use Rattle.js_machine.specs.declared.state.Next.TheVariants.{Made}
 use Rattle.js_machine.specs.Does.{Allocates, CountsUnits, Moves, world_of}
 use Rattle.js_machine.proofs.Doing.{does_move, does_read, moves_on, moves_read}
+use Rattle.js_machine.proofs.Lists.{drop_at, drop_none}
 use Rattle.js_machine.proofs.Allocating.{does_not_units, moves_alloc, moves_units, not_alloc}
 use Rattle.js_step_object.specs.Defining.{Comes, Makes}
-
--- nothing is done
-pub moves_still : (nodes : List Node) (p : Prog ℕ) (s : State) → Moves nodes p s p s
-moves_still nodes p s = record { law = λ supply ds k f. refl; frames = refl; left = omega arith; keeps = λ supply f. f; stays = refl }
-
-drop_at-suc : {A : Type 0} (xs : List A) (i : ℕ) (d : A) → i < length xs → drop i xs ≡ get_or xs i d ∷ drop (suc i) xs
-drop_at-suc [] i d h = absurd (omega arith)
-drop_at-suc (y ∷ ys) zero d h = refl
-drop_at-suc (y ∷ ys) (suc i) d h = drop_at-suc ys i d (omega arith)
-
-pub drop_at : {A : Type 0} (xs : List A) (i : ℕ) (d : A) → i < length xs → drop i xs ≡ get_or xs i d ∷ drop (i + 1) xs
-drop_at xs i d h = rw add-one (drop_at-suc xs i d h)
-
-pub drop_past : {A : Type 0} (xs : List A) (i : ℕ) → length xs ≤ i → drop i xs ≡ []
-drop_past [] zero h = refl
-drop_past [] (suc i) h = refl
-drop_past (y ∷ ys) zero h = absurd (omega arith)
-drop_past (y ∷ ys) (suc i) h = drop_past ys i (omega arith)
 
 -- what was done before a turn, and the turn
 module _ (nodes : List Node) (whole rest step after : Prog ℕ → Prog ℕ) (start now new : State) (so_far : (p : Prog ℕ) → Moves nodes (whole p) start (rest p) now) (is : (p : Prog ℕ) → rest p ≡ step (after p)) where
@@ -141,13 +124,4 @@ points_turn loc text point at end p (later, within, law) is =
     ap (λ l. push_texts loc l p) first
 
 pub points_past : (loc : ℕ) (text : List ℕ) (at : ℕ) (p : Prog ℕ) → length text ≤ at → push_texts loc (points_of (drop at text)) p ≡ p
-points_past loc text at p h = ap (λ l. push_texts loc (points_of l) p) (drop_past text at h)
-
-drop_some-suc : {A : Type 0} (xs : List A) (i : ℕ) (x : A) → i < length xs → x ≡ get_or xs i x → drop i xs ≡ x ∷ drop (suc i) xs
-drop_some-suc [] i x h e = absurd (omega arith)
-drop_some-suc (y ∷ ys) zero x h e = ap (λ z. z ∷ ys) (sym e)
-drop_some-suc (y ∷ ys) (suc i) x h e = drop_some-suc ys i x (omega arith) e
-
--- what stands at a place is the first from there on
-pub drop_some : {A : Type 0} (xs : List A) (i : ℕ) (x : A) → i < length xs → x ≡ get_or xs i x → drop i xs ≡ x ∷ drop (i + 1) xs
-drop_some xs i x h e = rw add-one (drop_some-suc xs i x h e)
+points_past loc text at p h = ap (λ l. push_texts loc (points_of l) p) (drop_none text at h)

@@ -1,11 +1,12 @@
 -- How a value is walked, and what follows it.
-use Rattle.std.proofs.Common.{◌≡◌, ℕ, ◌≤◌, List, [], ◌∷◌, Option, Some, None, Result, Ok, Err, IfOk, nat_eq, refl, sym, ap, ◌∙◌}
+use Rattle.std.proofs.Common.{◌≡◌, ℕ, ◌≤◌, List, [], Option, Some, None, Result, Ok, Err, IfOk, nat_eq, refl, sym, ap, ◌∙◌}
 use Rattle.std.specs.Prelude.{slice_get}
 use Rattle.js_tree.specs.declared.node.NodeId.{NodeId}
 use Rattle.js_tree.specs.declared.node.Node.{Node}
 use Rattle.js_tree.specs.declared.node.Node.TheVariants as kinds
 use Rattle.js_semantics.specs.declared.scope.Scope.{Scope}
 use Rattle.js_step_object.specs.Elements.{spread_in}
+use Rattle.js_step_object.proofs.Pushing.{element_is, element_row}
 use Rattle.world_heap.specs.declared.value.Value.{Value}
 use Rattle.world_heap.specs.declared.value.Value.TheVariants.{Ref, Str}
 use Rattle.world_heap.specs.declared.cell.Cell.{Cell}
@@ -13,7 +14,7 @@ use Rattle.world_heap.specs.declared.cell.Cell.TheVariants.{Array, Map, Set}
 use Rattle.world_heap.specs.Maps.{find}
 use Rattle.js_semantics.specs.declared.fault.StepFault.{StepFault}
 use Rattle.js_semantics.specs.World.{cell_at}
-use Rattle.js_semantics.specs.Prog.{Prog, Read, eval, step, throw}
+use Rattle.js_semantics.specs.Prog.{Prog, Read, throw}
 use Rattle.js_semantics.specs.Access.{make_array}
 use Rattle.js_semantics.specs.declared.fault.Fault.TheVariants.{NotIterable}
 use Rattle.world_heap.specs.declared.cell.MapEntry.{MapEntry}
@@ -86,19 +87,10 @@ value_refused nodes (Ref loc) old new r refers spells h = absurd (refers loc ref
 value_refused nodes (Str text) old new r refers spells h = absurd (spells text refl)
 value_refused nodes other old new r refers spells h = h
 
--- the values of an argument, by what it is a spread of
-abbrev argument_row : Option NodeId → NodeId → Scope ℕ → (List (Value ℕ) → Prog ℕ) → Prog ℕ
-argument_row (Some list) node scope k = step (eval list scope (λ v. walk_value v (λ array. Read (λ w. k (items_at (cell_at array w))))))
-argument_row None node scope k = eval node scope (λ v. k (v ∷ []))
-
-argument_is : (o : Option Node) (node : NodeId) (scope : Scope ℕ) (k : List (Value ℕ) → Prog ℕ) → values_of o node scope k ≡ argument_row (spread_in o) node scope k
-argument_is (Some (kinds.Spread list)) node scope k = refl
-argument_is other node scope k = refl
-
 -- an argument that the tree tells
-pub does_argument : (nodes : List Node) (node : NodeId) (scope : Scope ℕ) (k : List (Value ℕ) → Prog ℕ) (found : Option NodeId) (old new : State) (r : Result Next StepFault) → found ≡ spread_in (slice_get nodes node.0) → IfOk r (λ next. Does nodes 4 (argument_row found node scope k) old new next) → IfOk r (λ next. Does nodes 4 (Read (λ w. values_of (slice_get w.tree node.0) node scope k)) old new next)
+pub does_argument : (nodes : List Node) (node : NodeId) (scope : Scope ℕ) (k : List (Value ℕ) → Prog ℕ) (found : Option NodeId) (old new : State) (r : Result Next StepFault) → found ≡ spread_in (slice_get nodes node.0) → IfOk r (λ next. Does nodes 4 (element_row found node scope k) old new next) → IfOk r (λ next. Does nodes 4 (Read (λ w. values_of (slice_get w.tree node.0) node scope k)) old new next)
 does_argument nodes node scope k found old new r is h =
-    does_read_ok nodes 4 (λ w. values_of (slice_get w.tree node.0) node scope k) (argument_row found node scope k) old new r (λ supply. argument_is (slice_get nodes node.0) node scope k ∙ ap (λ o. argument_row o node scope k) (sym is)) h
+    does_read_ok nodes 4 (λ w. values_of (slice_get w.tree node.0) node scope k) (element_row found node scope k) old new r (λ supply. element_is (slice_get nodes node.0) node scope k ∙ ap (λ o. element_row o node scope k) (sym is)) h
 
 -- the items of what is walked are arguments
 pub does_items : (nodes : List Node) (array : ℕ) (items : List (Value ℕ)) (k : List (Value ℕ) → Prog ℕ) (old new : State) (r : Result Next StepFault) → items ≡ items_at (find nat_eq old.heap.cells array) → IfOk r (λ next. Does nodes 6 (k items) old new next) → IfOk r (λ next. Does nodes 6 (Read (λ w. k (items_at (cell_at array w)))) old new next)

@@ -1,5 +1,5 @@
 //! The arguments of a call, with spreads among them (ECMA-262, 13.3.8.1: ArgumentListEvaluation).
-ghost use Rattle.std.specs.Prelude.{◌≡◌, ◌+◌, ◌++◌, [], ◌∷◌, drop, slice_get, true, false, List, IfOk, MatchOption, Some, None};
+ghost use Rattle.std.specs.Prelude.{◌≡◌, ◌+◌, ◌++◌, [], ◌∷◌, slice_get, true, false, List, IfOk, Some, None};
 ghost use Rattle.js_tree.specs.declared.node.Node as kind;
 ghost use Rattle.js_names.specs.Patterns.{nodes_of};
 ghost use Rattle.js_semantics.specs.Access.{call};
@@ -9,17 +9,18 @@ ghost use Rattle.js_semantics.specs.Prog.{Read, eval, give, step};
 ghost use Rattle.js_semantics.specs.World.{cell_at};
 ghost use Rattle.js_machine.specs.Does.{Does};
 ghost use Rattle.js_machine.specs.Frames.{arguments_rest, call_rest, target_call};
-ghost use Rattle.js_step_object.specs.Elements.{spread_in};
 ghost use Rattle.js_iterate.specs.Calls.{pending_rest};
 
-use crate::filling::discard;
 use crate::rests::items_at;
 use crate::walking::walk_value;
-use js_calls::{call_last, construct, copy_scope};
-use js_machine::{CallFrame, CallTarget, Frame, Next, State, ValueFrame, stopped};
+use js_calls::{call_last, construct};
+use js_machine::{
+    CallFrame, CallTarget, Frame, Next, State, ValueFrame, copy_scope, discard, items_of, next_of,
+    stopped,
+};
 use js_semantics::{Scope, StepFault};
-use js_step_stmt::{items_of, node_at};
-use js_tree::{Node, NodeId, Tree};
+use js_step_object::spread_of;
+use js_tree::{NodeId, Tree};
 use sqlite_items::Items;
 use world_heap::{Loc, Value};
 use world_log::Stop;
@@ -32,38 +33,6 @@ pub struct Pending<L = Loc> {
     pub next: usize,
     pub before: Items<Value<L>>,
     pub target: CallTarget<L>,
-}
-
-// The node whose values a spread puts among the arguments, where a node is a spread.
-fn spread_in(node: &Node) -> Option<NodeId>
-    ensures { result ≡ spread_in (Some node.now) }
-{
-    match node {
-        Node::Spread(list) => Some(*list),
-        _ => None,
-    }
-}
-
-// The same of the argument with a number.
-fn spread_of(tree: &Tree, argument: NodeId) -> Option<NodeId>
-    ensures { result ≡ spread_in (slice_get (nodes_of tree.now) argument.0) }
-{
-    match node_at(tree, argument) {
-        Some(node) => spread_in(node),
-        None => None,
-    }
-}
-
-// What stands at a place of a list, and the place behind it.
-#[tactic(auto, using(crate::proofs::Turns::drop_some, crate::proofs::Turns::drop_past))]
-fn next_of(list: &[NodeId], at: usize) -> Option<(NodeId, usize)>
-    ensures { MatchOption result (drop at list.now ≡ []) (λ found. (drop at list.now ≡ found.0 ∷ drop found.1 list.now) × (found.1 ≡ at + 1)) }
-{
-    if at < list.len() {
-        Some((list[at], at + 1))
-    } else {
-        None
-    }
 }
 
 // The frame of an argument.

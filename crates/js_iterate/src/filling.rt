@@ -17,9 +17,6 @@ use wl_text::Units;
 use world_heap::{Loc, MapEntry, Value};
 use world_log::Stop;
 
-/// Lets a value go. A generic function keeps the cases of its drop out of its callers' proofs.
-pub fn discard<T: Drop>(_value: T) {}
-
 /// Makes an array of these values (ECMA-262, 7.3.18: CreateArrayFromList), or the row has ended, since the world stops.
 pub fn new_array(state: &mut State, items: Items<Value>) -> Result<Walking, StepFault>
     ensures { (nodes : List kind.Node) → IfOk result (λ made. Makes nodes (λ k. make_array items k) state.old state.new made) }

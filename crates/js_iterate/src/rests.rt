@@ -9,9 +9,9 @@ ghost use Rattle.js_machine.specs.Does.{Does};
 ghost use Rattle.js_machine.specs.Frames.{literal_rest, statement_rest};
 ghost use Rattle.js_machine.specs.Parts.{items_of};
 
-use crate::filling::{discard, push_values};
-use crate::walking::{copy_values, walk_value};
-use js_machine::{LiteralFrame, Next, State, StatementFrame};
+use crate::filling::push_values;
+use crate::walking::walk_value;
+use js_machine::{LiteralFrame, Next, State, StatementFrame, copy_values, discard};
 use js_semantics::{Scope, StepFault};
 use js_step_object::elements_from;
 use js_step_stmt::{Walk, of_turn};

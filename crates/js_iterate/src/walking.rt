@@ -9,7 +9,7 @@ ghost use Rattle.js_step_object.specs.Defining.{Makes};
 ghost use Rattle.js_iterate.specs.Walking.{walk_found, walked_in};
 
 use crate::filling::{new_array, push_entries, push_points, push_values};
-use js_machine::{Next, State};
+use js_machine::{Next, State, copy_values};
 use js_semantics::{Fault, StepFault};
 use sqlite_items::Items;
 use std::alloc::Global;
@@ -30,18 +30,6 @@ pub enum Walked<L = Loc> {
     Entries(Items<MapEntry<L>>),
     /// The cell can't be walked.
     Nothing,
-}
-
-/// The same values again.
-pub fn copy_values(alloc: Global, values: &[Value]) -> Result<Items<Value>, StepFault>
-    ensures { IfOk result (λ copies. copies ≡ values.now) }
-{
-    let mut copies = Items::new(alloc);
-    'values: for value in values {
-        let copy = value.copy(alloc)?;
-        copies.push(copy)?;
-    }
-    Ok(copies)
 }
 
 // The same entry again.

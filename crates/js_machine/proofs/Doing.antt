@@ -1,14 +1,15 @@
 -- How what parts of the machine do is put together.
 use Rattle.std.proofs.Common.{◌≡◌, ◌≢◌, ℕ, suc, zero, ◌+◌, ◌*◌, ◌-◌, ◌≤◌, ◌<◌, List, [], ◌∷◌, ◌++◌, length, option_to_list, append-nil, Option, Some, None, Bool, true, false, IfOk, Result, Ok, Err, nat_lt, nat_eq, refl, sym, ap, ◌∙◌, arith}
 use Rattle.std.proofs.lemmas.Result.{IfOk-weaker}
+use Rattle.std.proofs.Math.Path.{fun_ext}
 use Rattle.js_tree.specs.declared.node.Node.{Node}
 use Rattle.world_heap.specs.Views.{HeapView}
 use Rattle.js_semantics.specs.declared.fault.StepFault.{StepFault}
 use Rattle.js_semantics.specs.declared.outcome.Outcome.{Outcome}
-use Rattle.js_semantics.specs.declared.outcome.Outcome.TheVariants.{Normal}
+use Rattle.js_semantics.specs.declared.outcome.Outcome.TheVariants.{Normal, Return, Break, Continue, Thrown}
 use Rattle.world_heap.specs.declared.value.Value.{Value}
 use Rattle.js_semantics.specs.World.{World}
-use Rattle.js_semantics.specs.Prog.{Prog, Cont, Over, End, Enter, Read, Write, Place, Make, Request, Step, step, bind}
+use Rattle.js_semantics.specs.Prog.{Prog, Cont, Over, End, Enter, Read, Write, Place, Make, Request, Step, step, bind, give, on_value}
 use Rattle.js_semantics.specs.Rows.{row}
 use Rattle.js_semantics.specs.Run.{Arrival, Budget, receive, run}
 use Rattle.world_log.specs.declared.entry.Product.TheVariants.{Stopped}
@@ -36,7 +37,7 @@ weights_push [] f = omega arith
 weights_push (g ∷ fs) f = let e = weights_push fs f in omega arith
 
 -- no frame has a weight above 5
-after_most : (f : AfterFrame ℕ) → weight (frames.After f) < 4
+pub after_most : (f : AfterFrame ℕ) → weight (frames.After f) < 4
 after_most afters.Give = omega arith
 after_most (afters.Result value) = omega arith
 after_most (afters.Constructed object) = omega arith
@@ -175,6 +176,10 @@ moves_on nodes p q r old mid new m h = record {
 pub moves_by : (nodes : List Node) (p q : Prog ℕ) (s : State) → ((supply : ℕ → ℕ) (ds : List Arrival) (k : Cont ℕ) → run ds (budget_of s) (world_of nodes supply s) (bind p k) ≡ run ds (budget_of s) (world_of nodes supply s) (bind q k)) → Moves nodes p s q s
 moves_by nodes p q s same = record { law = λ supply ds k f. same supply ds k; frames = refl; left = omega arith; keeps = λ supply f. f; stays = refl }
 
+-- nothing is done
+pub moves_still : (nodes : List Node) (p : Prog ℕ) (s : State) → Moves nodes p s p s
+moves_still nodes p s = moves_by nodes p p s (λ supply ds k. refl)
+
 -- the world is read
 pub moves_read : (nodes : List Node) (f : World ℕ → Prog ℕ) (q : Prog ℕ) (s : State) → ((supply : ℕ → ℕ) → f (world_of nodes supply s) ≡ q) → Moves nodes (Read f) s q s
 unfolding run
@@ -199,3 +204,18 @@ moves_step nodes p old mid (some, is) = rw is (record {
 
 pub does_step_ok : (nodes : List Node) (n : ℕ) (p : Prog ℕ) (old mid new : State) (r : Result Next StepFault) → StepsDown old mid true → IfOk r (λ next. Does nodes n p mid new next) → IfOk r (λ next. Does nodes n (step p) old new next)
 does_step_ok nodes n p old mid new r h = does_move_ok nodes n _ _ old mid new r (moves_step nodes p old mid h)
+
+-- or none is left
+pub not_stepped : (nodes : List Node) (p : Prog ℕ) (old new : State) → StepsDown old new false → Does nodes 6 (step p) old new (Made (Stopped Fuel))
+not_stepped nodes p old new (none, is) = not_entered nodes 6 old new Step (λ o. p) (omega arith) none is
+
+given : (o : Outcome ℕ) → on_value (λ v. give v) o ≡ End o
+given (Normal v) = refl
+given (Return v) = refl
+given Break = refl
+given Continue = refl
+given (Thrown v) = refl
+
+-- what is done with a value that is given is what is done with the outcome
+pub passed : ◌≡◌ {A = Cont ℕ} (λ o. on_value (λ v. give v) o) (λ o. End o)
+passed = fun_ext given

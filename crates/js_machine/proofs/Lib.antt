@@ -5,3 +5,5 @@ pub mod Messages
 pub mod Errors
 pub mod Stepping
 pub mod Receiving
+pub mod Lists
+pub mod Changing

@@ -1,6 +1,6 @@
 -- What a delivery starts.
 use Rattle.std.proofs.Common.{◌≡◌, ℕ, suc, ◌+◌, ◌-◌, List, [], ◌∷◌, length, Bool, true, false, not, nat_eq, IfOk, Result, if◌then◌else◌, refl, sym, ap, ◌∙◌, arith}
-use Rattle.std.specs.Prelude.{map}
+use Rattle.js_names.specs.Patterns.{nodes_of}
 use Rattle.std.proofs.lemmas.Result.{IfOk-weaker}
 use Rattle.world_kind.specs.declared.WorldKind.{WorldKind}
 use Rattle.js_tree.specs.declared.node.Node.{Node}
@@ -80,15 +80,15 @@ fresh_alone nodes supply ds kind heap s (heap_is, frames_are, control_is, steps_
     λ i. record { heap = cells i; depth = depth_is i; units = units i; limits = limits i; kind = kind_is i; tree = nodes; loaded = loaded_is i; supply = locations i; same = nat_eq } in
     λ i. run ds (budget i) (world i) (control_prog (control_is i) (under nodes (λ o. Over) (frames_are i)))
 
-length-nodes : (tree : List (Node × ℕ)) → length (map (λ n. n.0) tree) ≡ length tree
+length-nodes : (tree : List (Node × ℕ)) → length (nodes_of tree) ≡ length tree
 length-nodes [] = refl
 length-nodes (n ∷ ns) = ap suc (length-nodes ns)
 
 -- the script is entered, and is loaded from now on
-pub loaded_ok : (tree : List (Node × ℕ)) (root : ℕ) (old new : State) (r : Result Next StepFault) → root ≡ length tree - 1 → IfOk r (λ next. Does (map (λ n. n.0) tree) 2 (Enter (Script (record { 0 = root })) (λ o. rest (map (λ n. n.0) tree) frames.Script o)) (record old { loaded = true }) new next) → IfOk r (λ next. Does (map (λ n. n.0) tree) 2 load_row old new next)
+pub loaded_ok : (tree : List (Node × ℕ)) (root : ℕ) (old new : State) (r : Result Next StepFault) → root ≡ length tree - 1 → IfOk r (λ next. Does (nodes_of tree) 2 (Enter (Script (record { 0 = root })) (λ o. rest (nodes_of tree) frames.Script o)) (record old { loaded = true }) new next) → IfOk r (λ next. Does (nodes_of tree) 2 load_row old new next)
 unfolding run
 loaded_ok tree root old new r root_is h =
-    let nodes = map (λ n. n.0) tree in
+    let nodes = nodes_of tree in
     let e : root ≡ length nodes - 1 = root_is ∙ sym (ap (λ n. n - 1) (length-nodes tree)) in
     let now : State = record old { loaded = true } in
     let moves : Moves nodes load_row old (Enter (Script (record { 0 = root })) (λ o. script_end o)) now = record {

@@ -1,3 +1,4 @@
 pub mod Parts
 pub mod Frames
 pub mod Does
+pub mod Defaults

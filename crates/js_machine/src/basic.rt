@@ -1,7 +1,7 @@
 //! What the rows are made of: ending a row, and entering what is below it.
 ghost use Rattle.std.specs.Prelude.{◌≡◌, ◌≤◌, ◌++◌, ℕ, List, IfOk, OnOk, Some, None, option_to_list};
 ghost use Rattle.js_tree.specs.declared.node.Node as kind;
-ghost use Rattle.js_semantics.specs.Prog.{Bind, End, Enter, Member, Native, Node as NodeRequest, Request, Script};
+ghost use Rattle.js_semantics.specs.Prog.{Bind, End, Enter, Member, Native, Node as NodeRequest, Request, Script, done};
 ghost use Rattle.js_machine.specs.Frames.{after_rest, rest};
 ghost use Rattle.js_machine.specs.Does.{Does, IsEntered, StepsDown, under_frame};
 
@@ -15,6 +15,13 @@ use world_log::{Product, Stop};
 
 /// Lets a value go. A generic function keeps the cases of its drop out of its callers' proofs.
 pub fn discard<T: Drop>(_value: T) {}
+
+/// Ends a row without a value, as that of a statement (ECMA-262, 14.5.1).
+pub fn done(state: &mut State) -> Result<Next, StepFault>
+    ensures { (nodes : List kind.Node) → IfOk result (λ next. Does nodes 6 done state.old state.new next) }
+{
+    state.give(Outcome::Normal(Value::Undefined))
+}
 
 /// A world stops, for good.
 pub fn stopped(stop: Stop) -> Next

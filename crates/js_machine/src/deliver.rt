@@ -1,6 +1,7 @@
 //! What a delivery starts, and a new state.
-ghost use Rattle.std.specs.Prelude.{◌≡◌, ℕ, List, IfOk, true, map};
+ghost use Rattle.std.specs.Prelude.{◌≡◌, ℕ, List, IfOk, true};
 ghost use Rattle.js_tree.specs.declared.node.Node as tree_node;
+ghost use Rattle.js_names.specs.Patterns.{nodes_of};
 ghost use Rattle.js_semantics.specs.Alone.{alone_by};
 ghost use Rattle.js_semantics.specs.Run.{Arrival, load_row, refilled};
 ghost use Rattle.js_machine.specs.Does.{Does, IsFresh, IsRealm, Receives, does_await, is_running, setting_of, to_come};
@@ -62,7 +63,7 @@ impl State {
 
     // Enters the script, whose root is the last node.
     fn load(&mut self, tree: &Tree) -> Result<Next, StepFault>
-        ensures { IfOk result (λ next. Does (map (λ n. n.0) tree.now) 2 load_row self.old self.new next) }
+        ensures { IfOk result (λ next. Does (nodes_of tree.now) 2 load_row self.old self.new next) }
     {
         self.loaded = true;
         let root = NodeId(tree.len().saturating_sub(1));
@@ -77,7 +78,7 @@ impl State {
         delivery: Delivery,
     ) -> Result<Next, StepFault>
         requires { does_await self.old delivery ≡ true }
-        ensures { IfOk result (λ next. Receives (map (λ n. n.0) tree.now) (record { fresh = fresh; what = delivery }) self.old self.new next) }
+        ensures { IfOk result (λ next. Receives (nodes_of tree.now) (record { fresh = fresh; what = delivery }) self.old self.new next) }
     {
         self.refill(fresh);
         match delivery {

@@ -7,10 +7,10 @@ ghost use Rattle.js_semantics.specs.Statements.{pattern_of};
 ghost use Rattle.js_machine.specs.Does.{Does};
 ghost use Rattle.js_machine.specs.Frames.{pattern_rest};
 
-use crate::properties::{bind_object, bind_properties, discard, property_defaulted};
-use js_machine::{Next, PatternFrame, State};
+use crate::properties::{bind_object, bind_properties, property_defaulted};
+use js_machine::{Next, PatternFrame, State, discard, done, node_at};
 use js_semantics::{Scope, StepFault};
-use js_step_stmt::{bind_array, bind_elements, bind_name, done, element_defaulted, node_at};
+use js_step_stmt::{bind_array, bind_elements, bind_name, element_defaulted};
 use js_tree::{Node, NodeId, Tree};
 use world_heap::Value;
 

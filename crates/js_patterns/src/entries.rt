@@ -3,7 +3,7 @@ ghost use Rattle.std.specs.Prelude.{◌≡◌, ◌+◌, ◌-◌, ◌<◌, ◌^�
 ghost use Rattle.js_names.specs.Patterns.{nodes_of};
 ghost use Rattle.js_machine.specs.Parts.{entries_of};
 
-use js_step_stmt::node_at;
+use js_machine::node_at;
 use js_tree::{BindProperty, Node, NodeId, Tree};
 
 // The properties in a node.
@@ -29,7 +29,7 @@ pub fn entries_of(tree: &Tree, node: NodeId) -> &[BindProperty]
 }
 
 /// The property at a place of a pattern, where it has so many.
-#[tactic(auto, using(js_step_stmt::proofs::Behind::drop_some, js_step_stmt::proofs::Behind::drop_none))]
+#[tactic(auto, using(js_machine::proofs::Lists::drop_some, js_machine::proofs::Lists::drop_none))]
 pub fn entry_at(tree: &Tree, node: NodeId, at: usize) -> Option<&BindProperty>
     ensures part { MatchOption result (drop at (entries_of (slice_get (nodes_of tree.now) node.0)) ≡ [])
         (λ part. drop at (entries_of (slice_get (nodes_of tree.now) node.0)) ≡ part.now ∷ drop (at + 1) (entries_of (slice_get (nodes_of tree.now) node.0))) }

@@ -1,33 +1,22 @@
 //! Object patterns (ECMA-262, 14.3.3.1: PropertyBindingInitialization).
-ghost use Rattle.std.specs.Prelude.{◌≡◌, ◌+◌, ◌-◌, ◌^◌, ◌<◌, ◌∷◌, [], drop, slice_get, List, IfOk, Some};
+ghost use Rattle.std.specs.Prelude.{◌≡◌, ◌+◌, ◌-◌, ◌^◌, ◌<◌, ◌∷◌, drop, slice_get, List, IfOk, Some};
 ghost use Rattle.js_tree.specs.declared.node.Node as kind;
 ghost use Rattle.js_names.specs.Patterns.{nodes_of};
 ghost use Rattle.js_semantics.specs.Access.{bind_value, or_default};
 ghost use Rattle.js_semantics.specs.Statements.{bind_object, bind_properties};
 ghost use Rattle.js_machine.specs.Does.{Does};
 ghost use Rattle.js_machine.specs.Parts.{entries_of};
-ghost use Rattle.js_machine.specs.Frames.{after_rest, pattern_rest, property_read};
-ghost use Rattle.js_step_stmt.specs.Choices.{DefaultsTo};
+ghost use Rattle.js_machine.specs.Frames.{after_rest, pattern_rest};
 ghost use Rattle.js_patterns.specs.Nullish.{is_nullish};
 
 use crate::entries::entry_at;
-use js_calls::{copy_scope, get};
-use js_machine::{AfterFrame, Frame, Next, PatternFrame, State, ValueFrame};
+use js_calls::get;
+use js_machine::{AfterFrame, Next, PatternFrame, State, copy_scope, default_of, discard, done};
 use js_semantics::{Fault, Outcome, Scope, StepFault};
-use js_step_stmt::done;
+use js_step_stmt::pattern;
 use js_tree::{BindProperty, NodeId, Tree};
 use std::alloc::Global;
 use world_heap::Value;
-
-/// Lets a value go. A generic function keeps the cases of its drop out of its callers' proofs.
-pub(crate) fn discard<T: Drop>(_value: T) {}
-
-/// A frame of a pattern.
-fn pattern(frame: PatternFrame) -> Frame
-    ensures { result ≡ Frame.OnValue (ValueFrame.Pattern frame) }
-{
-    Frame::OnValue(ValueFrame::Pattern(frame))
-}
 
 // Whether a value is undefined or null.
 fn is_nullish(value: &Value) -> bool
@@ -134,16 +123,6 @@ fn bind_property(
         scope,
     };
     state.bind(pattern(frame), bind, value, inner)
-}
-
-// What is evaluated for a property that is undefined, where it has a default.
-fn default_of(value: &Value, default: Option<NodeId>) -> Option<NodeId>
-    ensures { DefaultsTo default value.now result }
-{
-    match value {
-        Value::Undefined => default,
-        _ => None,
-    }
 }
 
 // Evaluates the default of a property, or binds what was read.

@@ -13,7 +13,8 @@ use Rattle.world_heap.specs.Table.{put_under}
 use Rattle.world_heap.specs.Views.{HeapView}
 use Rattle.world_heap.proofs.Bodying.{fits_body, well_rebody}
 use Rattle.js_realm.specs.Building.{Members, contents}
-use Rattle.js_realm.specs.Filling.{AreDistinct, AreWithin, Fills, IsOpen, Puts, are_objects, filled}
+use Rattle.world_heap.specs.Stored.{IsDistinct}
+use Rattle.js_realm.specs.Filling.{AreWithin, Fills, IsOpen, Puts, are_objects, filled}
 use Rattle.js_realm.proofs.Listing.{keys-rebodied, length-keys, objects_filled, objects_no_env, rebodied_at, stands_at}
 
 within_put : (places : List ℕ) (ms : Members) (name : List ℕ) (p : Property ℕ) → PropertyOver (Stands places) p → AreWithin places ms → AreWithin places (put_under ms name p)
@@ -61,7 +62,7 @@ module _ (places : List ℕ) (heap : HeapView) (is_open : IsOpen places heap) (n
       let l = get_or places n 0 in
       let cells : new.cells ≡ rebodied heap.cells l (record b { properties = ms }) = ap (λ (h : HeapView). h.cells) is in
       let here : option_and_then body_of (find nat_eq heap.cells (get_or (keys heap.cells) n 0)) ≡ Some b = ap (λ k. option_and_then body_of (find nat_eq heap.cells k)) location_is ∙ found in
-      let distinct : AreDistinct (keys heap.cells) = subst AreDistinct (sym is_open.located) is_open.distinct in
+      let distinct : IsDistinct (keys heap.cells) = subst IsDistinct (sym is_open.located) is_open.distinct in
       let are : contents new.cells ≡ filled n ms (contents heap.cells) =
       ap contents cells ∙ ap (λ k. contents (rebodied heap.cells k (record b { properties = ms }))) (sym location_is) ∙ rebodied_at heap.cells n b ms distinct among here in
       record {

@@ -1,5 +1,5 @@
 -- Cells with their locations, and without.
-use Rattle.std.proofs.Common.{◌≡◌, ℕ, zero, suc, ◌<◌, Bool, true, false, if◌then◌else◌, List, [], ◌∷◌, ◌++◌, length, get_or, nat_eq, Option, Some, None, refl, sym, ap, ◌∙◌, arith}
+use Rattle.std.proofs.Common.{◌≡◌, ℕ, zero, suc, ◌<◌, Bool, true, false, if◌then◌else◌, List, [], ◌∷◌, ◌++◌, length, get_or, nat_eq, Option, Some, None, refl, subst, sym, ap, ◌∙◌, arith}
 use Rattle.std.proofs.lemmas.Bool.Decides.{nat_tests}
 use Rattle.std.specs.Prelude.{is_some, replicate, slice_get, IsSomeAnd}
 use Rattle.std.specs.Option.{option_and_then, option_map_or}
@@ -12,7 +12,8 @@ use Rattle.world_heap.specs.Heaps.{is_env, IsNoEnv}
 use Rattle.world_heap.specs.Maps.{keys, keys-put, find, put, stands, Stands}
 use Rattle.world_heap.proofs.Bodying.{has_cell, rebodied_is}
 use Rattle.js_realm.specs.Building.{Members, contents, with_members}
-use Rattle.js_realm.specs.Filling.{AreDistinct, are_objects, filled}
+use Rattle.world_heap.specs.Stored.{IsDistinct}
+use Rattle.js_realm.specs.Filling.{are_objects, filled}
 
 pub length-keys : (cs : List (ℕ × Cell ℕ)) → length (keys cs) ≡ length cs
 length-keys [] = refl
@@ -78,24 +79,22 @@ objects_no_env (c ∷ cs) l h s =
       | false ↦ λ e. objects_no_env cs l both.1 e
     ] s
 
--- the locations behind the first are distinct too
-distinct_tail : (k : ℕ) (ks : List ℕ) → AreDistinct (k ∷ ks) → AreDistinct ks
-distinct_tail k ks d m n less within = d (suc m) (suc n) (omega arith) (omega arith)
-
-distinct_head : (k : ℕ) (ks : List ℕ) (n : ℕ) → AreDistinct (k ∷ ks) → n < length ks → nat_eq k (get_or ks n 0) ≡ false
-distinct_head k ks n d within = differ k (get_or ks n 0) (d 0 (suc n) (omega arith) (omega arith))
+-- the first location stands at no other place
+distinct_head : (k : ℕ) (ks : List ℕ) (n : ℕ) → IsDistinct (k ∷ ks) → n < length ks → nat_eq k (get_or ks n 0) ≡ false
+distinct_head k ks n d within =
+    differ k (get_or ks n 0) (λ e. let there : stands nat_eq ks k ≡ true = subst (Stands ks) (sym e) (stands_at ks n within) in let nowhere = d.0 in absurd (cc))
 
 -- what stands at the n-th location is the n-th cell
-pub find_at : (cs : List (ℕ × Cell ℕ)) (n : ℕ) → AreDistinct (keys cs) → n < length cs → find nat_eq cs (get_or (keys cs) n 0) ≡ slice_get (contents cs) n
+pub find_at : (cs : List (ℕ × Cell ℕ)) (n : ℕ) → IsDistinct (keys cs) → n < length cs → find nat_eq cs (get_or (keys cs) n 0) ≡ slice_get (contents cs) n
 find_at [] n d within = absurd (omega arith)
 find_at (c ∷ cs) zero d within = ap (λ b. if b then Some c.1 else find nat_eq cs c.0) (same_is c.0)
 find_at (c ∷ cs) (suc n) d within =
     let len = length-keys cs in
     ap (λ b. if b then Some c.1 else find nat_eq cs (get_or (keys cs) n 0)) (distinct_head c.0 (keys cs) n d (omega arith))
-    ∙ find_at cs n (distinct_tail c.0 (keys cs) d) (omega arith)
+    ∙ find_at cs n d.1 (omega arith)
 
 -- so putting a cell there exchanges the n-th cell
-put_at : (cs : List (ℕ × Cell ℕ)) (n : ℕ) (c : Cell ℕ) (ms : Members) → AreDistinct (keys cs) → n < length cs → slice_get (contents cs) n ≡ Some c
+put_at : (cs : List (ℕ × Cell ℕ)) (n : ℕ) (c : Cell ℕ) (ms : Members) → IsDistinct (keys cs) → n < length cs → slice_get (contents cs) n ≡ Some c
     → contents (put nat_eq cs (get_or (keys cs) n 0) (with_members ms c)) ≡ filled n ms (contents cs)
 put_at [] n c ms d within is = absurd (omega arith)
 put_at (x ∷ cs) zero c ms d within is =
@@ -106,10 +105,10 @@ put_at (x ∷ cs) (suc n) c ms d within is =
     let len = length-keys cs in
     let l = get_or (keys cs) n 0 in
     ap (λ b. contents (if b then (x.0, with_members ms c) ∷ cs else x ∷ put nat_eq cs l (with_members ms c))) (distinct_head x.0 (keys cs) n d (omega arith))
-    ∙ ap (λ ys. x.1 ∷ ys) (put_at cs n c ms (distinct_tail x.0 (keys cs) d) (omega arith) is)
+    ∙ ap (λ ys. x.1 ∷ ys) (put_at cs n c ms d.1 (omega arith) is)
 
 -- a body with other members at the n-th location
-pub rebodied_at : (cs : List (ℕ × Cell ℕ)) (n : ℕ) (b : Body ℕ) (ms : Members) → AreDistinct (keys cs) → n < length cs
+pub rebodied_at : (cs : List (ℕ × Cell ℕ)) (n : ℕ) (b : Body ℕ) (ms : Members) → IsDistinct (keys cs) → n < length cs
     → option_and_then body_of (find nat_eq cs (get_or (keys cs) n 0)) ≡ Some b
     → contents (rebodied cs (get_or (keys cs) n 0) (record b { properties = ms })) ≡ filled n ms (contents cs)
 rebodied_at cs n b ms d within h =

@@ -12,7 +12,8 @@ use Rattle.js_semantics.specs.World.{limited}
 use Rattle.js_semantics.specs.Realm.{located, realm, realm_cells, realm_length}
 use Rattle.js_machine.specs.Does.{Follows, IsRealm}
 use Rattle.js_realm.specs.Building.{IsBare, bare_cells, contents, supply_of}
-use Rattle.js_realm.specs.Filling.{AreDistinct, Fills, IsOpen, are_objects, with_all}
+use Rattle.world_heap.specs.Stored.{IsDistinct}
+use Rattle.js_realm.specs.Filling.{Fills, IsOpen, are_objects, with_all}
 use Rattle.js_realm.proofs.Listing.{length-contents, length-keys}
 
 -- the bare cells are objects, and with all their members those of the realm
@@ -104,7 +105,7 @@ is_realm supply kind heap follows are base counts =
 
 -- a heap of bare cells, when it is filled
 module _ (limits : Bounds) (pool : PoolView) (kind : WorldKind) (heap : HeapView) (places : List ℕ) (bare : IsBare limits pool kind heap) (at_places : places ≡ keys heap.cells) where
-  pub open_bare : AreDistinct places → IsOpen places heap
+  pub open_bare : IsDistinct places → IsOpen places heap
   open_bare distinct = record {
     located = sym at_places;
     distinct = distinct;

@@ -1,5 +1,5 @@
 -- Members that are put into the cells of a realm.
-use Rattle.std.specs.Prelude.{◌≡◌, ℕ, zero, suc, ◌+◌, ◌<◌, List, [], ◌∷◌, length, Bool, true, false, if◌then◌else◌, is_some, slice_index, codes}
+use Rattle.std.specs.Prelude.{◌≡◌, ℕ, zero, suc, ◌+◌, List, [], ◌∷◌, Bool, true, false, if◌then◌else◌, is_some, codes}
 use Rattle.world_kind.specs.declared.WorldKind.{WorldKind}
 use Rattle.world_kind.specs.declared.WorldKind.TheVariants.{Main, Preload, Page}
 use Rattle.parcel.specs.declared.parcel.ErrorKind.{ErrorKind}
@@ -11,15 +11,12 @@ use Rattle.world_heap.specs.BuiltIns.{place_of}
 use Rattle.world_heap.specs.Maps.{keys, Stands}
 use Rattle.world_heap.specs.Over.{ListOver, PropertyOver}
 use Rattle.world_heap.specs.Table.{put_under}
+use Rattle.world_heap.specs.Stored.{IsDistinct}
 use Rattle.world_heap.specs.Views.{HeapView}
 use Rattle.js_semantics.specs.Faults.{kind_name, kind_number, prototype_of_kind}
 use Rattle.js_semantics.specs.Properties.{member}
 use Rattle.js_semantics.specs.Realm.{console_place, natives_place, module_place, module_names, error_kinds, member_at, members_from, global_members}
 use Rattle.js_realm.specs.Building.{Members, contents, supply_of, with_members}
-
--- two cells have two locations
-abbrev pub AreDistinct : List ℕ → Type 0
-AreDistinct places = (m n : ℕ) → m < n → n < length places → slice_index places m ≡ slice_index places n → ⊥
 
 -- the cells are all objects
 abbrev pub are_objects : List (Cell ℕ) → Bool
@@ -29,7 +26,7 @@ are_objects (c ∷ cs) = if is_some (body_of c) then are_objects cs else false
 -- a heap whose cells are objects at these locations
 pub record IsOpen (places : List ℕ) (heap : HeapView) : Type 0 where
   pub located : keys heap.cells ≡ places
-  pub distinct : AreDistinct places
+  pub distinct : IsDistinct places
   pub objects : are_objects (contents heap.cells) ≡ true
 
 -- the objects that the members refer to stand at these locations

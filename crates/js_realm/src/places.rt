@@ -1,7 +1,7 @@
 //! The locations of the cells of a heap.
-ghost use Rattle.std.specs.Prelude.{◌≡◌, IsTrue, IfOk};
+ghost use Rattle.std.specs.Prelude.{◌≡◌, IfOk};
 ghost use Rattle.world_heap.specs.Maps.{keys};
-ghost use Rattle.js_realm.specs.Filling.{AreDistinct};
+ghost use Rattle.world_heap.specs.Stored.{IsDistinct};
 
 use std::alloc::{AllocError, Global};
 use world_heap::{Heap, Loc};
@@ -17,14 +17,12 @@ pub fn cell_places(alloc: Global, heap: &Heap) -> Result<Vec<Loc>, AllocError>
     Ok(places)
 }
 
-/// Whether no location stands twice. The cost is quadratic in the locations.
-pub fn are_distinct(places: &[Loc]) -> bool
-    ensures { IsTrue result → AreDistinct places.now }
+/// The heap again, whose cells have two locations where they are two: its pool says so. It takes no memory.
+pub fn with_distinct_places(heap: Heap) -> Heap
+    ensures same { result ≡ heap }
+    ensures distinct { IsDistinct (keys result.cells) }
 {
-    'places: for (index, place) in places.iter().enumerate() {
-        if places[..index].contains(place) {
-            return false;
-        }
-    }
-    true
+    let (seat, pool) = heap.part();
+    pool.distinct();
+    Heap::join(seat, pool)
 }

@@ -9,7 +9,7 @@ ghost use Rattle.js_machine.specs.Does.{Follows, IsFresh, IsRealm, to_come};
 
 use crate::bare::bare_realm;
 use crate::filling::fill_realm;
-use crate::places::{are_distinct, cell_places};
+use crate::places::{cell_places, with_distinct_places};
 use js_machine::State;
 use std::alloc::{AllocError, Global};
 use world_heap::{Heap, Limits, Pool};
@@ -33,11 +33,8 @@ pub fn new_realm(
     ensures realm { IfOk result (λ heap. (supply : ℕ → ℕ) → Follows supply 0 heap.cells → IsRealm supply kind heap) }
     ensures rest { IfOk result (λ heap. heap ≡ with_built_in (empty_heap (bounds_of limits) pool) heap.cells) }
 {
-    let mut heap = bare_realm(alloc, limits, kind, pool)?;
+    let mut heap = with_distinct_places(bare_realm(alloc, limits, kind, pool)?);
     let places = cell_places(alloc, &heap)?;
-    if !are_distinct(&places) {
-        return Err(AllocError);
-    }
     fill_realm(alloc, &mut heap, &places, kind)?;
     Ok(heap)
 }

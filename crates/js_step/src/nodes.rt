@@ -7,10 +7,10 @@ ghost use Rattle.js_machine.specs.Does.{Does};
 
 use crate::operands::row_operand;
 use crate::operators::row_operator;
-use js_machine::{Next, State};
+use js_machine::{Next, State, done, node_at};
 use js_semantics::{Scope, StepFault};
 use js_step_block::row_block;
-use js_step_stmt::{done, node_at, row_statement};
+use js_step_stmt::row_statement;
 use js_tree::{Node, NodeId, Tree};
 
 /// Lets a value go. A generic function keeps the cases of its drop out of its callers' proofs.

@@ -1,4 +1,3 @@
 mod Joining
-mod Lookups
 mod Inheriting
 mod Removals

@@ -1,9 +1,6 @@
 -- How the removal of a property is put together.
-use Rattle.std.proofs.Common.{◌≡◌, ℕ, zero, suc, List, [], ◌∷◌, length, Option, Some, None, Bool, true, false, not, if◌then◌else◌, is_some, nat_eq, nat_lt, Result, IfOk, refl, sym, ap, ◌∙◌, arith}
-use Rattle.std.specs.Prelude.{slice_get, option_map}
-use Rattle.std.specs.Option.{option_and_then, option_map_or}
-use Rattle.std.proofs.lemmas.Bool.Decides.{nat_tests}
-use Rattle.wl_text.specs.Number.{index_of}
+use Rattle.std.proofs.Common.{◌≡◌, ℕ, List, length, Option, Some, None, Bool, true, false, not, if◌then◌else◌, is_some, nat_eq, Result, IfOk, refl, sym, ap, ◌∙◌, arith}
+use Rattle.std.specs.Option.{option_map_or}
 use Rattle.world_heap.specs.declared.value.Value.{Value}
 use Rattle.world_heap.specs.declared.value.Value.TheVariants.{Str, Ref}
 use Rattle.world_heap.specs.declared.cell.Body.{Body}
@@ -25,36 +22,10 @@ use Rattle.js_semantics.specs.Properties.{Deletion, Keeps, Leaves, Removes, dele
 use Rattle.js_semantics.specs.Access.{delete, delete_with}
 use Rattle.js_machine.specs.declared.state.State.{State}
 use Rattle.js_machine.specs.declared.state.Next.{Next}
-use Rattle.js_machine.specs.Does.{Does, Follows, Moves, budget_of, left, world_of}
+use Rattle.js_machine.specs.Does.{Does, Moves, budget_of, left, world_of}
+use Rattle.js_machine.proofs.Changing.{follows_keys}
 use Rattle.js_machine.proofs.Doing.{does_move_ok, does_read_ok}
 use Rattle.js_step_access.specs.Removing.{is_kept, removed}
-
--- whether a text has a unit under a key
-lt_suc : (i n : ℕ) → nat_lt (suc i) (suc n) ≡ nat_lt i n
-lt_suc i n = go (nat_lt i n) refl
-  where
-    go : (b : Bool) → nat_lt i n ≡ b → nat_lt (suc i) (suc n) ≡ b
-    go true e = grind (arith, nat_tests)
-    go false e = grind (arith, nat_tests)
-
-within : {A : Type 0} (xs : List A) (i : ℕ) → is_some (slice_get xs i) ≡ nat_lt i (length xs)
-within [] zero = refl
-within [] (suc i) = let e : nat_lt (suc i) 0 ≡ false = grind (arith, nat_tests) in sym e
-within (x ∷ xs) zero = let e : nat_lt 0 (suc (length xs)) ≡ true = grind (arith, nat_tests) in sym e
-within (x ∷ xs) (suc i) = within xs i ∙ sym (lt_suc i (length xs))
-
-mapped : {A B : Type 0} (f : A → B) (o : Option A) → is_some (option_map f o) ≡ is_some o
-mapped f None = refl
-mapped f (Some x) = refl
-
-unit_at : (text key : List ℕ) (o : Option ℕ) → index_of key ≡ o → is_some (text_unit text key) ≡ is_some (option_and_then (slice_get text) o)
-unit_at text key o e = mapped (λ u. u ∷ []) (option_and_then (slice_get text) (index_of key)) ∙ ap (λ i. is_some (option_and_then (slice_get text) i)) e
-
-pub unit_under : (text key : List ℕ) (i : ℕ) → index_of key ≡ Some i → is_some (text_unit text key) ≡ nat_lt i (length text)
-unit_under text key i e = unit_at text key (Some i) e ∙ within text i
-
-pub no_unit : (text key : List ℕ) → index_of key ≡ None → is_some (text_unit text key) ≡ false
-no_unit text key e = unit_at text key None e
 
 -- what the removal of a property comes to, where nothing changes
 pub delete_ok : (nodes : List Node) (of : Value ℕ) (key : List ℕ) (q : Prog ℕ) (old new : State) (r : Result Next StepFault) → ((w : World ℕ) → delete_with (delete_step of key w) ≡ q)
@@ -95,16 +66,6 @@ module _ (cells : List (ℕ × Cell ℕ)) (loc : ℕ) (key : List ℕ) where
 
   agrees : Agrees cells (deleted_at (find nat_eq cells loc) loc key) (is_gone (removal_from cells loc key)) (after_removal (removal_from cells loc key) cells loc key)
   agrees = agrees_at (find nat_eq cells loc) refl
-
--- the same locations follow the supply
-follows_keys : (supply : ℕ → ℕ) (n : ℕ) (xs ys : List (ℕ × Cell ℕ)) → keys xs ≡ keys ys → Follows supply n xs → Follows supply n ys
-follows_keys supply n [] [] e f = tt
-follows_keys supply n [] (y ∷ ys) e f = absurd (cc)
-follows_keys supply n (x ∷ xs) [] e f = absurd (cc)
-follows_keys supply n (x ∷ xs) (y ∷ ys) e f =
-    let first : x.0 ≡ y.0 = cc in
-    let others : keys xs ≡ keys ys = cc in
-    (sym first ∙ f.0, follows_keys supply (suc n) xs ys others f.1)
 
 -- a state that differs in its cells alone
 module _ (nodes : List Node) (old mid : State) (p q : Prog ℕ) (cs : List (ℕ × Cell ℕ)) where

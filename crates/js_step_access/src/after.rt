@@ -7,9 +7,8 @@ ghost use Rattle.js_names.specs.Patterns.{nodes_of};
 ghost use Rattle.js_semantics.specs.Prog.{give};
 ghost use Rattle.js_semantics.specs.Expressions.{updated};
 
-use crate::keys::discard;
 use crate::writing::write_place;
-use js_machine::{AfterFrame, Frame, Next, OperandFrame, Place, State, ValueFrame};
+use js_machine::{AfterFrame, Frame, Next, OperandFrame, Place, State, ValueFrame, discard};
 use js_operators::moved;
 use js_semantics::{Fault, Scope, StepFault};
 use js_step_expr::settle;

@@ -4,37 +4,12 @@ ghost use Rattle.std.specs.Option.{option_and_then};
 ghost use Rattle.world_heap.specs.Heaps.{proto_of};
 ghost use Rattle.world_heap.specs.Maps.{find};
 ghost use Rattle.js_semantics.specs.World.{World, over};
-ghost use Rattle.js_semantics.specs.Properties.{is_symbol, object_of};
+ghost use Rattle.js_semantics.specs.Properties.{object_of};
 ghost use Rattle.js_semantics.specs.Expressions.{inherits, is_above};
 ghost use Rattle.js_step_access.specs.Instances.{instance_in};
 
+use js_machine::object_of;
 use world_heap::{Cell, Heap, Loc, Value};
-
-// Whether a symbol stands at a location.
-fn is_symbol_at(heap: &Heap, loc: Loc) -> bool
-    ensures { result ≡ is_symbol (find nat_eq heap.now.cells loc) }
-{
-    match heap.get(loc) {
-        Some(Cell::Symbol { .. }) => true,
-        _ => false,
-    }
-}
-
-// The location of an object, where a value is one; a symbol is none.
-fn object_of(heap: &Heap, value: &Value) -> Option<Loc>
-    ensures { (w : World ℕ) → result ≡ object_of value.now (over heap.now w) }
-{
-    match value {
-        Value::Ref(loc) => {
-            if is_symbol_at(heap, *loc) {
-                None
-            } else {
-                Some(*loc)
-            }
-        }
-        _ => None,
-    }
-}
 
 // The prototype of a cell.
 fn cell_prototype(cell: &Cell) -> Option<Loc>

@@ -8,10 +8,9 @@ ghost use Rattle.js_names.specs.Patterns.{nodes_of};
 ghost use Rattle.js_step_access.specs.Instances.{instance_after};
 
 use crate::inheritance::instance_in;
-use crate::keys::discard;
 use crate::writing::write_place;
 use js_calls::get;
-use js_machine::{AfterFrame, Next, Place, State};
+use js_machine::{AfterFrame, Next, Place, State, discard};
 use js_operators::{is_callable_value, short_text};
 use js_semantics::{Fault, Outcome, StepFault};
 use js_step_expr::Remaining;

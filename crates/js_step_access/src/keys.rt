@@ -4,14 +4,11 @@ ghost use Rattle.js_machine.specs.Frames.{key_text};
 ghost use Rattle.js_machine.specs.Parts.{name_of};
 ghost use Rattle.js_names.specs.Patterns.{nodes_of};
 
-use js_machine::Key;
+use js_machine::{Key, node_at};
 use js_semantics::StepFault;
 use js_tree::{Node, NodeId, Tree};
 use std::alloc::Global;
 use wl_text::Units;
-
-/// Lets a value go. A generic function keeps the cases of its drop out of its callers' proofs.
-pub(crate) fn discard<T: Drop>(_value: T) {}
 
 // The name of a `Name` or `Dot` node.
 #[tactic(auto, unfolding(js_machine::specs::Parts::name_of))]
@@ -29,10 +26,9 @@ fn name_in(node: &Node) -> Option<&Units>
 pub fn name_at(tree: &Tree, node: NodeId) -> Option<&Units>
     ensures { IfSome result (λ name. name.now ≡ name_of (slice_get (nodes_of tree.now) node.0)) }
 {
-    if node.0 < tree.len() {
-        name_in(tree.node(node))
-    } else {
-        None
+    match node_at(tree, node) {
+        Some(node) => name_in(node),
+        None => None,
     }
 }
 

@@ -9,9 +9,9 @@ ghost use Rattle.js_names.specs.Patterns.{nodes_of};
 ghost use Rattle.js_calls.specs.Naming.{read_by};
 ghost use Rattle.js_step_expr.specs.Left.{left_of, undeclared};
 
-use crate::keys::{discard, name_at};
+use crate::keys::name_at;
 use js_calls::{Named, get, meaning_of};
-use js_machine::{AfterFrame, Next, State};
+use js_machine::{AfterFrame, Next, State, discard};
 use js_semantics::{Fault, Scope, StepFault};
 use js_step_expr::{Remaining, give_type};
 use js_tree::{NodeId, Tree};

@@ -1,30 +1,18 @@
 //! Removing a property (ECMA-262, 13.5.1.2).
-ghost use Rattle.std.specs.Prelude.{◌≡◌, List, IfOk, is_some, nat_eq, not, true};
+ghost use Rattle.std.specs.Prelude.{◌≡◌, List, IfOk, not, true};
 ghost use Rattle.js_tree.specs.declared.node.Node as kind;
-ghost use Rattle.world_heap.specs.Heaps.{IsCell};
 ghost use Rattle.world_heap.specs.declared.value.Value.TheVariants.{Ref};
-ghost use Rattle.proto_props.specs.Gets.{text_unit};
 ghost use Rattle.js_semantics.specs.Access.{delete};
 ghost use Rattle.js_machine.specs.Does.{Does};
 ghost use Rattle.js_step_access.specs.Removing.{is_kept, removed};
 
-use js_machine::{Next, State};
+use js_calls::has_unit;
+use js_machine::{Next, State, is_cell};
 use js_operators::{same_text, short_text};
 use js_semantics::{Fault, Outcome, StepFault};
 use std::alloc::Global;
-use wl_text::{Units, index_of};
-use world_heap::{Heap, Loc, Value};
-
-// Whether a text has a unit under a key.
-#[tactic(auto, using(crate::proofs::Removals::unit_under, crate::proofs::Removals::no_unit))]
-fn has_unit(text: &Units, key: &Units) -> bool
-    ensures { result ≡ is_some (text_unit text.now key.now) }
-{
-    match index_of(key) {
-        Some(index) => (index as usize) < text.len(),
-        None => false,
-    }
-}
+use wl_text::Units;
+use world_heap::{Loc, Value};
 
 // Whether a property of a string stays, as its length and its units do.
 fn is_kept(alloc: Global, text: &Units, key: &Units) -> Result<bool, StepFault>
@@ -45,16 +33,6 @@ fn settle(state: &mut State, gone: bool) -> Result<Next, StepFault>
         state.give(Outcome::Normal(Value::Bool(true)))
     } else {
         state.throw(Fault::ReadOnly)
-    }
-}
-
-// Whether a location is that of a cell.
-fn is_cell(heap: &Heap, loc: Loc) -> bool
-    ensures { result ≡ true → IsCell nat_eq heap.now.cells loc }
-{
-    match heap.get(loc) {
-        Some(_) => true,
-        None => false,
     }
 }
 

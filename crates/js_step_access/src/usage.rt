@@ -5,10 +5,10 @@ ghost use Rattle.js_machine.specs.Does.{Does};
 ghost use Rattle.js_machine.specs.Frames.{after_rest, key_text, use_rest};
 ghost use Rattle.js_names.specs.Patterns.{nodes_of};
 
-use crate::keys::{copy_key, discard, key_units};
+use crate::keys::{copy_key, key_units};
 use crate::removal::delete;
 use js_calls::get;
-use js_machine::{AfterFrame, Key, Next, OperandFrame, Place, State, Use};
+use js_machine::{AfterFrame, Key, Next, OperandFrame, Place, State, Use, discard};
 use js_semantics::{Scope, StepFault};
 use js_step_expr::enter_operand;
 use js_tree::{BinaryOperator, NodeId, Tree, UpdateOperator};

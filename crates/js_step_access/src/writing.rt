@@ -5,9 +5,9 @@ ghost use Rattle.js_machine.specs.Does.{Does};
 ghost use Rattle.js_machine.specs.Frames.{write_place};
 ghost use Rattle.js_names.specs.Patterns.{nodes_of};
 
-use crate::keys::{discard, name_at, own_text};
+use crate::keys::{name_at, own_text};
 use js_calls::{set, write_name};
-use js_machine::{Next, Place, State};
+use js_machine::{Next, Place, State, discard};
 use js_semantics::StepFault;
 use js_tree::Tree;
 use world_heap::Value;

@@ -1,5 +1,5 @@
 -- The functions of items are made one after another.
-use Rattle.std.proofs.Common.{◌≡◌, ℕ, suc, zero, ◌+◌, ◌≤◌, ◌<◌, List, [], ◌∷◌, length, drop, get_or, Bool, true, false, Option, Some, None, Result, Ok, Err, refl, sym, ap, ◌∙◌, arith, add-one}
+use Rattle.std.proofs.Common.{◌≡◌, ℕ, List, [], ◌∷◌, true, false, Option, Some, None, Result, Ok, Err, refl, arith}
 use Rattle.std.specs.Prelude.{slice_get}
 use Rattle.js_tree.specs.declared.node.NodeId.{NodeId}
 use Rattle.js_tree.specs.declared.node.Function.{Function}
@@ -13,12 +13,8 @@ use Rattle.js_semantics.specs.Statements.{enter_block, fill_function, fill_funct
 use Rattle.js_machine.specs.declared.state.State.{State}
 use Rattle.js_machine.specs.declared.state.Next.{Next}
 use Rattle.js_machine.specs.Does.{Does, Moves}
-use Rattle.js_machine.proofs.Doing.{allowing, does_move, moves_on, moves_read}
+use Rattle.js_machine.proofs.Doing.{allowing, does_move, moves_on, moves_read, moves_still}
 use Rattle.js_step_object.specs.Defining.{Comes, Makes}
-
--- nothing is done
-pub moves_still : (nodes : List Node) (p : Prog ℕ) (s : State) → Moves nodes p s p s
-moves_still nodes p s = record { law = λ supply ds k f. refl; frames = refl; left = omega arith; keeps = λ supply f. f; stays = refl }
 
 -- an item that declares no function
 pub fill_other : (nodes : List Node) (here : Node) (item : NodeId) (env : ℕ) (s : State) → ((name : List ℕ) (function : Function) → here ≡ kinds.FunDecl name function → ⊥) → Comes nodes (λ p. fill_function (Some here) item env p) s s None
@@ -31,14 +27,6 @@ made_then nodes f old mid made loc k is h = let g : Makes nodes f old mid (Ok lo
 
 pub made_ended : (nodes : List Node) (f : (ℕ → Prog ℕ) → Prog ℕ) (old new : State) (made : Result ℕ Next) (next : Next) (k : ℕ → Prog ℕ) → made ≡ Err next → Makes nodes f old new made → Does nodes 2 (f k) old new next
 made_ended nodes f old new made next k is h = let g : Makes nodes f old new (Err next) = rw is at h in g k
-
-drop_at-suc : {A : Type 0} (xs : List A) (i : ℕ) (d : A) → i < length xs → drop i xs ≡ get_or xs i d ∷ drop (suc i) xs
-drop_at-suc [] i d h = absurd (omega arith)
-drop_at-suc (y ∷ ys) zero d h = refl
-drop_at-suc (y ∷ ys) (suc i) d h = drop_at-suc ys i d (omega arith)
-
-pub drop_at : {A : Type 0} (xs : List A) (i : ℕ) (d : A) → i < length xs → drop i xs ≡ get_or xs i d ∷ drop (i + 1) xs
-drop_at xs i d h = rw add-one (drop_at-suc xs i d h)
 
 module _ (nodes : List Node) (env : ℕ) (items rest more : List NodeId) (item : NodeId) (start now next : State) (so_far : (p : Prog ℕ) → Moves nodes (fill_functions items env p) start (fill_functions rest env p) now) (is : rest ≡ item ∷ more) where
   -- the function of one item more
@@ -57,12 +45,6 @@ module _ (nodes : List Node) (env : ℕ) (items rest more : List NodeId) (item :
 -- all are made
 pub fill_done : (nodes : List Node) (env : ℕ) (items rest : List NodeId) (start now : State) → ((p : Prog ℕ) → Moves nodes (fill_functions items env p) start (fill_functions rest env p) now) → rest ≡ [] → Comes nodes (λ p. fill_functions items env p) start now None
 fill_done nodes env items rest start now h is = λ p. rw is at (h p)
-
-pub drop_past : {A : Type 0} (xs : List A) (i : ℕ) → length xs ≤ i → drop i xs ≡ []
-drop_past [] zero h = refl
-drop_past [] (suc i) h = refl
-drop_past (y ∷ ys) zero h = absurd (omega arith)
-drop_past (y ∷ ys) (suc i) h = drop_past ys i (omega arith)
 
 -- a list that a test finds not to be empty
 pub not_empty : (bindings : List (Binding ℕ)) → (bindings ≡ [] → false ≡ true) → bindings ≡ [] → ⊥

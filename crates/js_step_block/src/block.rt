@@ -1,5 +1,5 @@
 //! The row of a block (ECMA-262, 14.2.2).
-ghost use Rattle.std.specs.Prelude.{◌≡◌, Some, slice_get, IfOk};
+ghost use Rattle.std.specs.Prelude.{Some, slice_get, IfOk};
 ghost use Rattle.js_names.specs.Patterns.{nodes_of};
 ghost use Rattle.js_semantics.specs.Environments.{env_cell};
 ghost use Rattle.js_semantics.specs.Prog.{alloc};
@@ -8,10 +8,10 @@ ghost use Rattle.js_machine.specs.Does.{Does};
 ghost use Rattle.js_machine.specs.Parts.{items_of};
 
 use crate::filling::fill_functions;
-use js_machine::{Next, State, stopped};
+use js_machine::{Next, State, items_of, stopped};
 use js_names::declared_in;
 use js_semantics::{Scope, StepFault};
-use js_step_stmt::{inside, items_of, run_items};
+use js_step_stmt::{inside, run_items};
 use js_tree::{NodeId, Tree};
 use sqlite_items::Items;
 use world_heap::Binding;

@@ -1,5 +1,5 @@
 //! The functions that the items of a scope declare (ECMA-262, 14.2.3: BlockDeclarationInstantiation).
-ghost use Rattle.std.specs.Prelude.{◌≡◌, List, IfOk, Some, slice_get};
+ghost use Rattle.std.specs.Prelude.{List, IfOk, Some, slice_get};
 ghost use Rattle.js_tree.specs.declared.node.Node as kind;
 ghost use Rattle.js_names.specs.Patterns.{nodes_of};
 ghost use Rattle.js_semantics.specs.Environments.{bind_in};
@@ -8,11 +8,10 @@ ghost use Rattle.js_semantics.specs.Prog.{change};
 ghost use Rattle.js_semantics.specs.Statements.{fill_function, fill_functions};
 ghost use Rattle.js_step_object.specs.Defining.{Comes};
 
-use js_machine::{Next, State};
+use js_machine::{Next, State, node_at};
 use js_names::bind_in;
 use js_semantics::StepFault;
 use js_step_object::make_function;
-use js_step_stmt::node_at;
 use js_tree::{Node, NodeId, Tree};
 use wl_text::Units;
 use world_heap::{Loc, Value};

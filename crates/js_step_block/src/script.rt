@@ -1,6 +1,5 @@
 //! The row of a script (ECMA-262, 16.1.6 and 16.1.7).
 ghost use Rattle.std.specs.Prelude.{◌≡◌, ℕ, List, None, Some, slice_get, IfOk};
-ghost use Rattle.std.specs.Option.{option_map_or};
 ghost use Rattle.js_tree.specs.declared.node.Node as kind;
 ghost use Rattle.js_tree.specs.declared.node.Node.TheVariants as kinds;
 ghost use Rattle.world_heap.specs.declared.value.Value.TheVariants.{Ref, Undefined};
@@ -12,10 +11,9 @@ ghost use Rattle.js_machine.specs.Does.{Does, world_of};
 ghost use Rattle.js_machine.specs.Parts.{items_of};
 
 use crate::block::filled;
-use js_machine::{Next, State, stopped};
+use js_machine::{Next, State, done, items_of, node_at, stopped};
 use js_names::declared_in;
 use js_semantics::{Scope, StepFault};
-use js_step_stmt::{done, items_of, node_at};
 use js_tree::{Node, NodeId, Tree};
 use sqlite_items::Items;
 use world_heap::{Binding, BuiltIn, Value};

@@ -1,31 +1,24 @@
 -- Rows of calls, by what is called.
-use Rattle.std.proofs.Common.{◌≡◌, ℕ, List, [], Option, Some, Result, IfOk, false, refl, sym, ap, ◌∙◌, arith}
+use Rattle.std.proofs.Common.{◌≡◌, ℕ, List, [], Option, Some, Result, IfOk, refl, sym, ap, ◌∙◌}
 use Rattle.std.specs.Prelude.{slice_get}
 use Rattle.js_tree.specs.declared.node.NodeId.{NodeId}
 use Rattle.js_tree.specs.declared.node.Node.{Node}
 use Rattle.js_tree.specs.declared.node.Node.TheVariants as kinds
 use Rattle.js_semantics.specs.declared.scope.Scope.{Scope}
 use Rattle.js_semantics.specs.declared.fault.StepFault.{StepFault}
-use Rattle.world_log.specs.declared.entry.Product.TheVariants.{Stopped}
-use Rattle.world_log.specs.declared.entry.Stop.TheVariants.{Fuel}
-use Rattle.js_semantics.specs.Prog.{Prog, Step, eval, give, step}
+use Rattle.js_semantics.specs.Prog.{eval, give, step}
 use Rattle.js_semantics.specs.Access.{call, get}
 use Rattle.js_semantics.specs.Iteration.{arguments_of}
 use Rattle.js_semantics.specs.Objects.{callee_of, row_call}
 use Rattle.js_machine.specs.declared.frame.CallTarget.TheVariants as targets
 use Rattle.js_machine.specs.declared.state.State.{State}
 use Rattle.js_machine.specs.declared.state.Next.{Next}
-use Rattle.js_machine.specs.declared.state.Next.TheVariants.{Made}
-use Rattle.js_machine.specs.Does.{Does, StepsDown}
+use Rattle.js_machine.specs.Does.{Does}
 use Rattle.js_machine.specs.Frames.{arguments_rest}
 use Rattle.js_machine.specs.Parts.{items_of, name_of}
-use Rattle.js_machine.proofs.Doing.{does_read_ok, not_entered}
+use Rattle.js_machine.proofs.Doing.{does_read_ok}
 use Rattle.js_step_call.specs.declared.called.Called.{Called}
 use Rattle.js_step_call.specs.Called.{call_at, called_in}
-
--- no step is left
-pub not_stepped : (nodes : List Node) (p : Prog ℕ) (old new : State) → StepsDown old new false → Does nodes 6 (step p) old new (Made (Stopped Fuel))
-not_stepped nodes p old new (none, is) = not_entered nodes 6 old new Step (λ o. p) (omega arith) none is
 
 module _ (nodes : List Node) (node callee : NodeId) (scope : Scope ℕ) where
   -- what a callee is called with

@@ -3,7 +3,7 @@ ghost use Rattle.std.specs.Prelude.{◌≡◌, Some, slice_get};
 ghost use Rattle.js_names.specs.Patterns.{nodes_of};
 ghost use Rattle.js_step_call.specs.Called.{called_in};
 
-use js_step_stmt::node_at;
+use js_machine::node_at;
 use js_tree::{Node, NodeId, Tree};
 
 /// What the callee of a call is: a property, whose object is the receiver, or a value without a receiver.

@@ -6,14 +6,11 @@ ghost use Rattle.js_machine.specs.Frames.{after_rest, arguments_rest, call_rest}
 
 use js_calls::{parameter_bound, parameter_default, rest_bound};
 use js_iterate::{Pending, argument_value, arguments_from, spread_value};
-use js_machine::{AfterFrame, CallFrame, CallTarget, Next, State};
+use js_machine::{AfterFrame, CallFrame, CallTarget, Next, State, discard};
 use js_semantics::{Scope, StepFault};
 use js_tree::{NodeId, Tree};
 use sqlite_items::Items;
 use world_heap::Value;
-
-// Lets a value go. A generic function keeps the cases of its drop out of its callers' proofs.
-fn discard<T: Drop>(_value: T) {}
 
 // The arguments of a node from the first on, and then what they are for.
 fn all_arguments(

@@ -10,8 +10,9 @@ ghost use Rattle.js_machine.specs.Parts.{items_of};
 ghost use Rattle.js_step_call.specs.Called.{call_at};
 
 use crate::called::{Called, called_at};
-use js_calls::copy_scope;
-use js_machine::{CallFrame, Frame, Next, PropertyFrame, State, Use, ValueFrame, stopped};
+use js_machine::{
+    CallFrame, Frame, Next, PropertyFrame, State, Use, ValueFrame, copy_scope, stopped,
+};
 use js_semantics::{Scope, StepFault};
 use js_tree::{NodeId, Tree};
 use world_log::Stop;

@@ -1,5 +1,4 @@
 pub mod Applied
-pub mod Passing
 pub mod Settled
 pub mod Templates
 pub mod Words

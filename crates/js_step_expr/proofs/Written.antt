@@ -1,5 +1,5 @@
 -- Rows that turn on what a node is as a reference.
-use Rattle.std.proofs.Common.{◌≡◌, ℕ, List, Option, Some, Bool, Result, Ok, Err, false, refl, sym, ap, arith}
+use Rattle.std.proofs.Common.{◌≡◌, ℕ, List, Option, Some, Bool, Result, Ok, Err, refl, sym, ap}
 use Rattle.std.specs.Prelude.{slice_get}
 use Rattle.world_heap.specs.declared.value.Value.TheVariants.{Undefined}
 use Rattle.js_tree.specs.declared.node.NodeId.{NodeId}
@@ -10,18 +10,15 @@ use Rattle.js_tree.specs.declared.node.Node.TheVariants as kinds
 use Rattle.js_semantics.specs.declared.fault.Fault.TheVariants.{NotDefined}
 use Rattle.js_semantics.specs.declared.scope.Scope.{Scope}
 use Rattle.js_semantics.specs.World.{World}
-use Rattle.world_log.specs.declared.entry.Product.TheVariants.{Stopped}
-use Rattle.world_log.specs.declared.entry.Stop.TheVariants.{Fuel}
-use Rattle.js_semantics.specs.Prog.{Prog, Read, Step, eval, step, give, throw}
+use Rattle.js_semantics.specs.Prog.{Prog, Read, eval, step, give, throw}
 use Rattle.js_semantics.specs.Access.{delete, get, read_name, set, write_name}
 use Rattle.js_semantics.specs.Expressions.{assign_by, assign_to, assign_with, delete_target, give_type, type_of_node, update_target, updated}
 use Rattle.js_machine.specs.declared.state.State.{State}
 use Rattle.js_machine.specs.declared.state.Next.{Next}
-use Rattle.js_machine.specs.declared.state.Next.TheVariants.{Made}
 use Rattle.js_step_expr.specs.declared.frames.Remaining.{Remaining}
 use Rattle.js_machine.specs.Parts.{name_of}
-use Rattle.js_machine.specs.Does.{Does, StepsDown, world_of}
-use Rattle.js_machine.proofs.Doing.{does_read, moves_on, moves_read, not_entered}
+use Rattle.js_machine.specs.Does.{world_of}
+use Rattle.js_machine.proofs.Doing.{does_read, moves_on, moves_read}
 use Rattle.js_step_expr.specs.Left.{DoesOrComes}
 use Rattle.js_step_expr.specs.Targets.{target_in, assign_at, assign_by_at, delete_at, typeof_at, update_at}
 
@@ -37,10 +34,6 @@ unfolding target_in name_of
 delete_is nodes node (Some (kinds.Dot object name)) scope e = sym (ap (λ m. step (eval object scope (λ base. delete base (name_of m)))) e)
 delete_is nodes node (Some (kinds.Index object key)) scope e = refl
 delete_is nodes node other scope e = refl
-
--- no step is left
-pub not_stepped : (nodes : List Node) (p : Prog ℕ) (old new : State) → StepsDown old new false → Does nodes 6 (step p) old new (Made (Stopped Fuel))
-not_stepped nodes p old new (none, is) = not_entered nodes 6 old new Step (λ o. p) (omega arith) none is
 
 pub typeof_is : (nodes : List Node) (node : NodeId) (n : Option Node) (scope : Scope ℕ) → slice_get nodes node.0 ≡ n → type_of_node n node scope ≡ typeof_at nodes node (target_in n) scope
 unfolding target_in name_of

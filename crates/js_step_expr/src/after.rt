@@ -4,9 +4,8 @@ ghost use Rattle.js_tree.specs.declared.node.Node as kind;
 ghost use Rattle.js_machine.specs.Does.{Does};
 ghost use Rattle.js_machine.specs.Frames.{after_rest};
 
-use crate::entering::discard;
 use crate::types::give_type;
-use js_machine::{AfterFrame, Next, State};
+use js_machine::{AfterFrame, Next, State, discard};
 use js_semantics::{Outcome, StepFault};
 use world_heap::Value;
 

@@ -1,5 +1,5 @@
 //! Operators between two operands (ECMA-262, 13.6 to 13.12).
-ghost use Rattle.std.specs.Prelude.{◌≡◌, ◌≢◌, ℕ, List, IfOk};
+ghost use Rattle.std.specs.Prelude.{◌≢◌, ℕ, List, IfOk};
 ghost use Rattle.world_heap.specs.declared.value.Value as values;
 ghost use Rattle.js_tree.specs.declared.node.Node as kind;
 ghost use Rattle.js_semantics.specs.Prog.{Prog};
@@ -9,10 +9,10 @@ ghost use Rattle.js_machine.specs.Does.{Does, Moves};
 ghost use Rattle.js_machine.specs.Frames.{operand_rest};
 ghost use Rattle.js_step_expr.specs.Settling.{Settles};
 
-use crate::entering::{copy_scope, enter_operand};
+use crate::entering::enter_operand;
 use crate::membership::membership;
 use crate::settling::{finish, settle};
-use js_machine::{Next, OperandFrame, State};
+use js_machine::{Next, OperandFrame, State, copy_scope};
 use js_operators::{Answer, of_operands, strictly_equal};
 use js_semantics::{Scope, StepFault};
 use js_tree::{BinaryOperator, NodeId};

@@ -7,8 +7,8 @@ ghost use Rattle.js_semantics.specs.Expressions.{row_and, row_or, row_nullish, r
 ghost use Rattle.js_machine.specs.Does.{Does};
 ghost use Rattle.js_machine.specs.Frames.{operand_rest};
 
-use crate::entering::{copy_scope, discard, enter_operand, pass};
-use js_machine::{Next, OperandFrame, State};
+use crate::entering::{enter_operand, pass};
+use js_machine::{Next, OperandFrame, State, copy_scope, discard};
 use js_operators::is_truthy;
 use js_semantics::{Outcome, Scope, StepFault};
 use js_tree::NodeId;

@@ -1,5 +1,5 @@
 //! How a row enters the nodes of its operands.
-ghost use Rattle.std.specs.Prelude.{◌≡◌, List, IfOk};
+ghost use Rattle.std.specs.Prelude.{List, IfOk};
 ghost use Rattle.js_tree.specs.declared.node.Node as kind;
 ghost use Rattle.js_semantics.specs.Prog.{eval, give};
 ghost use Rattle.js_machine.specs.Does.{Does};
@@ -8,21 +8,6 @@ ghost use Rattle.js_machine.specs.Frames.{operand_rest};
 use js_machine::{Frame, Next, OperandFrame, State, ValueFrame};
 use js_semantics::{Scope, StepFault};
 use js_tree::NodeId;
-use std::alloc::Global;
-
-/// Lets a value go. A generic function keeps the cases of its drop out of its callers' proofs.
-pub(crate) fn discard<T: Drop>(_value: T) {}
-
-/// The same scope again. The cost is constant, but where its receiver is a string linear in the units.
-pub fn copy_scope(alloc: Global, scope: &Scope) -> Result<Scope, StepFault>
-    ensures { IfOk result (λ copy. copy ≡ scope.now) }
-{
-    let receiver = scope.receiver.copy(alloc)?;
-    Ok(Scope {
-        env: scope.env,
-        receiver,
-    })
-}
 
 /// Enters the node of an operand, and leaves a frame for its value.
 pub fn enter_operand(

@@ -1,6 +1,7 @@
 //! What is done with the value of an operand, frame by frame.
-ghost use Rattle.std.specs.Prelude.{◌≢◌, ℕ, map, List, IfOk};
+ghost use Rattle.std.specs.Prelude.{◌≢◌, ℕ, List, IfOk};
 ghost use Rattle.js_tree.specs.declared.node.Node as kind;
+ghost use Rattle.js_names.specs.Patterns.{nodes_of};
 ghost use Rattle.js_semantics.specs.Prog.{Prog, give};
 ghost use Rattle.js_machine.specs.declared.state.State as kept;
 ghost use Rattle.js_machine.specs.Frames.{operand_rest, write_place};
@@ -9,11 +10,10 @@ ghost use Rattle.js_step_expr.specs.Settling.{Settles};
 
 use crate::binary::{apply, binary_left, binary_right};
 use crate::choice::{and_left, cond_test, nullish_left, or_left, seq_first};
-use crate::entering::discard;
 use crate::template::template_part;
 use crate::types::{delete_value, typeof_value};
 use crate::unary::unary_operand;
-use js_machine::{AfterFrame, Key, Next, OperandFrame, Place, State, Use};
+use js_machine::{AfterFrame, Key, Next, OperandFrame, Place, State, Use, discard};
 use js_semantics::{Scope, StepFault};
 use js_tree::{BinaryOperator, NodeId, Tree};
 use world_heap::{Loc, Value};
@@ -125,7 +125,7 @@ pub fn operand(
     frame: OperandFrame,
     value: Value,
 ) -> Result<Result<Next, Remaining>, StepFault>
-    ensures { IfOk result (λ r. DoesOrComes (map (λ n. n.0) tree.now) (operand_rest (map (λ n. n.0) tree.now) frame value) state.old state.new r) }
+    ensures { IfOk result (λ r. DoesOrComes (nodes_of tree.now) (operand_rest (nodes_of tree.now) frame value) state.old state.new r) }
 {
     match frame {
         OperandFrame::TemplatePart {

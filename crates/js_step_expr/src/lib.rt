@@ -25,7 +25,7 @@ pub use choice::{
     and_left, cond_test, nullish_left, or_left, row_and, row_cond, row_nullish, row_or, row_seq,
     seq_first,
 };
-pub use entering::{copy_scope, enter_operand, pass};
+pub use entering::{enter_operand, pass};
 pub use frames::{Remaining, operand};
 pub use literal::{row_literal, row_text, row_this};
 pub use properties::{index_key, index_object, property, used};

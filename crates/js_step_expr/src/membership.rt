@@ -4,49 +4,32 @@ ghost use Rattle.world_heap.specs.Heaps.{IsCell};
 ghost use Rattle.world_heap.specs.declared.value.Value as values;
 ghost use Rattle.js_semantics.specs.World.{World, over};
 ghost use Rattle.js_semantics.specs.Prog.{Prog};
-ghost use Rattle.js_semantics.specs.Properties.{has_property, is_symbol, object_of};
+ghost use Rattle.js_semantics.specs.Properties.{has_property, object_of};
 ghost use Rattle.js_semantics.specs.Operators.{key_of};
 ghost use Rattle.js_semantics.specs.Expressions.{compute, has_key};
 ghost use Rattle.js_operators.specs.Answers.{computed_of};
 
+use js_machine::{is_cell, object_of};
 use js_operators::{Answer, key_of};
 use js_semantics::{Fault, StepFault};
 use proto_props::find;
 use std::alloc::Global;
 use wl_text::Units;
-use world_heap::{Cell, Heap, Loc, Value};
+use world_heap::{Heap, Loc, Value};
 
 // The location of an object, where a value is one; a symbol is none.
-fn object_of(heap: &Heap, value: &Value) -> Result<Option<Loc>, StepFault>
+fn object_at(heap: &Heap, value: &Value) -> Result<Option<Loc>, StepFault>
     ensures is { (w : World ℕ) → IfOk result (λ found. found ≡ object_of value.now (over heap.now w)) }
     ensures stands { IfOk result (λ found. IfSome found (λ loc. IsCell nat_eq heap.now.cells loc)) }
 {
-    match value {
-        Value::Ref(loc) => object_at(heap, *loc),
-        _ => Ok(None),
-    }
-}
-
-// Whether a cell is a symbol, which is no object.
-fn is_symbol(cell: &Cell) -> bool
-    ensures { result ≡ is_symbol (Some cell.now) }
-{
-    matches!(cell, Cell::Symbol { .. })
-}
-
-// The location of a cell, where it is an object.
-fn object_at(heap: &Heap, loc: Loc) -> Result<Option<Loc>, StepFault>
-    ensures is { (w : World ℕ) → IfOk result (λ found. found ≡ object_of (Value.Ref loc) (over heap.now w)) }
-    ensures stands { IfOk result (λ found. IfSome found (λ at. IsCell nat_eq heap.now.cells at)) }
-{
-    match heap.get(loc) {
-        Some(cell) => {
-            if is_symbol(cell) {
-                return Ok(None);
+    match object_of(heap, value) {
+        Some(loc) => {
+            if !is_cell(heap, loc) {
+                return Err(StepFault::Dangling);
             }
             Ok(Some(loc))
         }
-        None => Err(StepFault::Dangling),
+        None => Ok(None),
     }
 }
 
@@ -98,7 +81,7 @@ pub(crate) fn membership(
 ) -> Result<Answer, StepFault>
     ensures { (w : World ℕ) (k : values.Value ℕ → Prog ℕ) → IfOk result (λ answer. has_key (key_of key.now) (object_of object.now (over heap.now w)) (over heap.now w) k ≡ compute (computed_of answer) k) }
 {
-    match object_of(heap, object)? {
+    match object_at(heap, object)? {
         Some(loc) => in_object(alloc, heap, key, loc),
         None => Ok(Answer::Fails(Fault::WrongOperand)),
     }

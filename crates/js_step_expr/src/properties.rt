@@ -5,9 +5,11 @@ ghost use Rattle.js_machine.specs.Does.{Does};
 ghost use Rattle.js_machine.specs.Frames.{property_rest, use_rest};
 ghost use Rattle.js_step_expr.specs.Left.{DoesOrComes};
 
-use crate::entering::{copy_scope, enter_operand};
+use crate::entering::enter_operand;
 use crate::frames::Remaining;
-use js_machine::{Frame, Key, Next, OperandFrame, Place, PropertyFrame, State, Use, ValueFrame};
+use js_machine::{
+    Frame, Key, Next, OperandFrame, Place, PropertyFrame, State, Use, ValueFrame, copy_scope,
+};
 use js_operators::key_of;
 use js_semantics::{Fault, Scope, StepFault};
 use js_tree::NodeId;

@@ -1,6 +1,7 @@
 //! Rows of references (ECMA-262, 13.1, 13.3, 13.5.1 and 13.15): properties, `delete` and assignments enter their parts.
-ghost use Rattle.std.specs.Prelude.{◌≡◌, List, IfOk, map, slice_get};
+ghost use Rattle.std.specs.Prelude.{◌≡◌, List, IfOk, slice_get};
 ghost use Rattle.js_tree.specs.declared.node.Node as kind;
+ghost use Rattle.js_names.specs.Patterns.{nodes_of};
 ghost use Rattle.js_semantics.specs.Prog.{eval, step};
 ghost use Rattle.js_semantics.specs.Expressions.{row_assign, row_assign_with, row_delete, row_dot, row_index, row_name, row_typeof, row_update};
 ghost use Rattle.js_machine.specs.Parts.{name_of};
@@ -9,12 +10,13 @@ ghost use Rattle.js_machine.specs.Frames.{operand_rest};
 ghost use Rattle.js_step_expr.specs.Left.{DoesOrComes, left_of};
 ghost use Rattle.js_step_expr.specs.Targets.{of_index, of_object};
 
-use crate::entering::{copy_scope, discard, enter_operand};
+use crate::entering::enter_operand;
 use crate::frames::Remaining;
 use crate::targets::{Target, target_of};
 use crate::types::{row_delete_value, row_typeof_value};
 use js_machine::{
-    AfterFrame, Frame, Next, OperandFrame, Place, PropertyFrame, State, Use, ValueFrame, stopped,
+    AfterFrame, Frame, Next, OperandFrame, Place, PropertyFrame, State, Use, ValueFrame,
+    copy_scope, discard, stopped,
 };
 use js_semantics::{Fault, Scope, StepFault};
 use js_tree::{BinaryOperator, NodeId, Tree, UpdateOperator};
@@ -165,7 +167,7 @@ pub fn row_assign(
     value: NodeId,
     scope: Scope,
 ) -> Result<Next, StepFault>
-    ensures { IfOk result (λ next. Does (map (λ n. n.0) tree.now) 6 (row_assign target value scope) state.old state.new next) }
+    ensures { IfOk result (λ next. Does (nodes_of tree.now) 6 (row_assign target value scope) state.old state.new next) }
 {
     match target_of(tree, target) {
         Target::Name => {
@@ -191,7 +193,7 @@ pub fn row_delete(
     operand: NodeId,
     scope: Scope,
 ) -> Result<Next, StepFault>
-    ensures { IfOk result (λ next. Does (map (λ n. n.0) tree.now) 6 (row_delete operand scope) state.old state.new next) }
+    ensures { IfOk result (λ next. Does (nodes_of tree.now) 6 (row_delete operand scope) state.old state.new next) }
 {
     match target_of(tree, operand) {
         Target::Dot { object } => step_object(state, operand, object, Use::Delete, scope),
@@ -209,7 +211,7 @@ pub fn row_typeof(
     operand: NodeId,
     scope: Scope,
 ) -> Result<Result<Next, Remaining>, StepFault>
-    ensures { IfOk result (λ r. DoesOrComes (map (λ n. n.0) tree.now) (row_typeof operand scope) state.old state.new r) }
+    ensures { IfOk result (λ r. DoesOrComes (nodes_of tree.now) (row_typeof operand scope) state.old state.new r) }
 {
     match target_of(tree, operand) {
         Target::Name => Ok(step_name(state, operand, scope.env, AfterFrame::Typeof)),
@@ -230,7 +232,7 @@ pub fn row_update(
     before: bool,
     scope: Scope,
 ) -> Result<Result<Next, Remaining>, StepFault>
-    ensures { IfOk result (λ r. DoesOrComes (map (λ n. n.0) tree.now) (row_update operator target before scope) state.old state.new r) }
+    ensures { IfOk result (λ r. DoesOrComes (nodes_of tree.now) (row_update operator target before scope) state.old state.new r) }
 {
     match target_of(tree, target) {
         Target::Name => {
@@ -266,7 +268,7 @@ pub fn row_assign_with(
     value: NodeId,
     scope: Scope,
 ) -> Result<Result<Next, Remaining>, StepFault>
-    ensures { IfOk result (λ r. DoesOrComes (map (λ n. n.0) tree.now) (row_assign_with operator target value scope) state.old state.new r) }
+    ensures { IfOk result (λ r. DoesOrComes (nodes_of tree.now) (row_assign_with operator target value scope) state.old state.new r) }
 {
     match target_of(tree, target) {
         Target::Name => {

@@ -1,8 +1,9 @@
 //! Nodes as references, and the nodes of a tree.
-ghost use Rattle.std.specs.Prelude.{◌≡◌, map, slice_get};
-ghost use Rattle.std.specs.Option.{option_copied};
+ghost use Rattle.std.specs.Prelude.{◌≡◌, slice_get};
+ghost use Rattle.js_names.specs.Patterns.{nodes_of};
 ghost use Rattle.js_step_expr.specs.Targets.{target_in};
 
+use js_machine::node_at;
 use js_tree::{Node, NodeId, Tree};
 
 /// What a node is as a reference (ECMA-262, 6.2.5).
@@ -17,29 +18,29 @@ pub enum Target {
     Other,
 }
 
-/// The node with a number, where there is one. The cost is constant.
-pub(crate) fn node_at(tree: &Tree, node: NodeId) -> Option<&Node>
-    ensures { option_copied result ≡ slice_get (map (λ n. n.0) tree.now) node.0 }
+// What a node is as a reference.
+#[tactic(auto, unfolding(crate::specs::Targets::target_in))]
+fn target_in(node: &Node) -> Target
+    ensures { result ≡ target_in (Some node.now) }
 {
-    if node.0 < tree.len() {
-        Some(tree.node(node))
-    } else {
-        None
+    match node {
+        Node::Name(_) => Target::Name,
+        Node::Dot { object, .. } => Target::Dot { object: *object },
+        Node::Index { object, key } => Target::Index {
+            object: *object,
+            key: *key,
+        },
+        _ => Target::Other,
     }
 }
 
 /// What the node with a number is as a reference.
 #[tactic(auto, unfolding(crate::specs::Targets::target_in))]
 pub(crate) fn target_of(tree: &Tree, node: NodeId) -> Target
-    ensures { result ≡ target_in (slice_get (map (λ n. n.0) tree.now) node.0) }
+    ensures { result ≡ target_in (slice_get (nodes_of tree.now) node.0) }
 {
     match node_at(tree, node) {
-        Some(Node::Name(_)) => Target::Name,
-        Some(Node::Dot { object, .. }) => Target::Dot { object: *object },
-        Some(Node::Index { object, key }) => Target::Index {
-            object: *object,
-            key: *key,
-        },
-        _ => Target::Other,
+        Some(node) => target_in(node),
+        None => Target::Other,
     }
 }

@@ -1,16 +1,16 @@
 //! Template literals (ECMA-262, 13.2.8).
-ghost use Rattle.std.specs.Prelude.{◌≡◌, ◌++◌, [], ℕ, drop, map, slice_get, List, IfOk};
+ghost use Rattle.std.specs.Prelude.{◌≡◌, ◌++◌, [], drop, slice_get, List, IfOk};
 ghost use Rattle.js_tree.specs.declared.node.Node as kind;
+ghost use Rattle.js_names.specs.Patterns.{nodes_of};
 ghost use Rattle.js_semantics.specs.Prog.{give, make_text};
 ghost use Rattle.js_semantics.specs.Expressions.{first_text, row_template, template_from};
 ghost use Rattle.js_machine.specs.Parts.{parts_of, texts_of};
 ghost use Rattle.js_machine.specs.Does.{Does};
 ghost use Rattle.js_machine.specs.Frames.{operand_rest};
 
-use crate::entering::{copy_scope, enter_operand};
+use crate::entering::enter_operand;
 use crate::settling::finish;
-use crate::targets::node_at;
-use js_machine::{Next, OperandFrame, State};
+use js_machine::{Next, OperandFrame, State, copy_scope, node_at};
 use js_operators::{Answer, primitive_text};
 use js_semantics::{Fault, Scope, StepFault};
 use js_tree::{Node, NodeId, Tree};
@@ -19,13 +19,35 @@ use std::alloc::Global;
 use wl_text::{TextFault, Units};
 use world_heap::Value;
 
+// The texts in a node.
+#[tactic(auto, unfolding(js_machine::specs::Parts::texts_of))]
+fn texts_in(node: &Node) -> &[Units]
+    ensures { result.now ≡ texts_of (Some node.now) }
+{
+    match node {
+        Node::Template { texts, .. } => texts.as_slice(),
+        _ => &[],
+    }
+}
+
 // The texts of a template.
 #[tactic(auto, unfolding(js_machine::specs::Parts::texts_of))]
 fn texts_of(tree: &Tree, node: NodeId) -> &[Units]
-    ensures { result.now ≡ texts_of (slice_get (map (λ n. n.0) tree.now) node.0) }
+    ensures { result.now ≡ texts_of (slice_get (nodes_of tree.now) node.0) }
 {
     match node_at(tree, node) {
-        Some(Node::Template { texts, .. }) => texts.as_slice(),
+        Some(node) => texts_in(node),
+        None => &[],
+    }
+}
+
+// The parts in a node.
+#[tactic(auto, unfolding(js_machine::specs::Parts::parts_of))]
+fn parts_in(node: &Node) -> &[NodeId]
+    ensures { result.now ≡ parts_of (Some node.now) }
+{
+    match node {
+        Node::Template { parts, .. } => parts.as_slice(),
         _ => &[],
     }
 }
@@ -33,11 +55,11 @@ fn texts_of(tree: &Tree, node: NodeId) -> &[Units]
 // The parts of a template.
 #[tactic(auto, unfolding(js_machine::specs::Parts::parts_of))]
 fn parts_of(tree: &Tree, node: NodeId) -> &[NodeId]
-    ensures { result.now ≡ parts_of (slice_get (map (λ n. n.0) tree.now) node.0) }
+    ensures { result.now ≡ parts_of (slice_get (nodes_of tree.now) node.0) }
 {
     match node_at(tree, node) {
-        Some(Node::Template { parts, .. }) => parts.as_slice(),
-        _ => &[],
+        Some(node) => parts_in(node),
+        None => &[],
     }
 }
 
@@ -86,7 +108,7 @@ fn template_from(
     before: Items<u16>,
     scope: Scope,
 ) -> Result<Next, StepFault>
-    ensures { IfOk result (λ next. Does (map (λ n. n.0) tree.now) 6 (template_from before (drop place (texts_of (slice_get (map (λ n. n.0) tree.now) node.0))) (drop place (parts_of (slice_get (map (λ n. n.0) tree.now) node.0))) scope) state.old state.new next) }
+    ensures { IfOk result (λ next. Does (nodes_of tree.now) 6 (template_from before (drop place (texts_of (slice_get (nodes_of tree.now) node.0))) (drop place (parts_of (slice_get (nodes_of tree.now) node.0))) scope) state.old state.new next) }
 {
     let before = with_text(state.alloc, before, texts_of(tree, node), place)?;
     match at(parts_of(tree, node), place) {
@@ -112,7 +134,7 @@ pub fn row_template(
     node: NodeId,
     scope: Scope,
 ) -> Result<Next, StepFault>
-    ensures { IfOk result (λ next. Does (map (λ n. n.0) tree.now) 6 (row_template (texts_of (slice_get (map (λ n. n.0) tree.now) node.0)) (parts_of (slice_get (map (λ n. n.0) tree.now) node.0)) scope) state.old state.new next) }
+    ensures { IfOk result (λ next. Does (nodes_of tree.now) 6 (row_template (texts_of (slice_get (nodes_of tree.now) node.0)) (parts_of (slice_get (nodes_of tree.now) node.0)) scope) state.old state.new next) }
 {
     template_from(state, tree, node, 0, Items::new(state.alloc), scope)
 }
@@ -128,7 +150,7 @@ pub fn template_part(
     scope: Scope,
     value: Value,
 ) -> Result<Next, StepFault>
-    ensures { IfOk result (λ next. Does (map (λ n. n.0) tree.now) 6 (operand_rest (map (λ n. n.0) tree.now) (OperandFrame.TemplatePart node place before scope) value) state.old state.new next) }
+    ensures { IfOk result (λ next. Does (nodes_of tree.now) 6 (operand_rest (nodes_of tree.now) (OperandFrame.TemplatePart node place before scope) value) state.old state.new next) }
 {
     match primitive_text(state.alloc, &value)? {
         Some(text) => {

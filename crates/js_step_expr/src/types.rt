@@ -8,8 +8,8 @@ ghost use Rattle.js_semantics.specs.Expressions.{give_type, type_word};
 ghost use Rattle.js_machine.specs.Does.{Does};
 ghost use Rattle.js_machine.specs.Frames.{operand_rest};
 
-use crate::entering::{discard, enter_operand};
-use js_machine::{Next, OperandFrame, State};
+use crate::entering::enter_operand;
+use js_machine::{Next, OperandFrame, State, discard};
 use js_operators::{short_text, type_word};
 use js_semantics::{Outcome, Scope, StepFault};
 use js_tree::NodeId;

@@ -30,7 +30,8 @@ use Rattle.js_machine.specs.declared.state.Next.TheVariants.{Made}
 use Rattle.js_machine.specs.Does.{Does}
 use Rattle.js_machine.proofs.Doing.{does_read, moves_on, moves_read}
 use Rattle.js_step_object.specs.Defining.{Defines, body_at, standing, under_key}
-use Rattle.js_step_object.proofs.Writing.{does_not_place, moves_write, passed_none, passed_places}
+use Rattle.js_machine.proofs.Changing.{passed_none, passed_places}
+use Rattle.js_step_object.proofs.Writing.{does_not_place, moves_write}
 
 -- whether a key stands in a body, where there is one
 abbrev pub told : Option (Body ℕ) → List ℕ → Option Bool

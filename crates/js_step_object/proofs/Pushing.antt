@@ -27,7 +27,8 @@ use Rattle.js_machine.specs.declared.state.Next.TheVariants.{Made}
 use Rattle.js_machine.specs.Does.{world_of}
 use Rattle.js_step_object.specs.Defining.{Comes}
 use Rattle.js_step_object.specs.Elements.{is_open_array, spread_in}
-use Rattle.js_step_object.proofs.Writing.{does_not_place, moves_write, passed_none, passed_places}
+use Rattle.js_machine.proofs.Changing.{passed_none, passed_places}
+use Rattle.js_step_object.proofs.Writing.{does_not_place, moves_write}
 
 -- an array that isn't frozen
 open_cell : (cells : List (ℕ × Cell ℕ)) (loc : ℕ) (c : Cell ℕ) → find nat_eq cells loc ≡ Some c → is_open_array c ≡ true → IsOpenArray cells loc

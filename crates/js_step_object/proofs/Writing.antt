@@ -1,13 +1,9 @@
 -- What a cell that takes the place of another is to a row, with the places that it takes.
-use Rattle.std.proofs.Common.{◌≡◌, ℕ, suc, ◌+◌, ◌*◌, ◌-◌, ◌≤◌, ◌<◌, List, [], ◌∷◌, Some, None, Bool, true, false, if◌then◌else◌, nat_lt, nat_eq, refl, sym, ap, ◌∙◌, arith}
-use Rattle.std.proofs.lemmas.Bool.Decides.{nat_tests}
+use Rattle.std.proofs.Common.{◌≡◌, ℕ, ◌+◌, ◌*◌, ◌-◌, ◌≤◌, ◌<◌, List, [], ◌∷◌, nat_eq, refl, sym, ap, ◌∙◌, arith}
 use Rattle.js_tree.specs.declared.node.Node.{Node}
 use Rattle.world_heap.specs.declared.cell.Cell.{Cell}
-use Rattle.world_heap.specs.declared.limits.Counts.{Counts}
-use Rattle.world_heap.specs.declared.limits.Full.TheVariants.{Places as FullPlaces, Units as FullUnits}
 use Rattle.world_heap.specs.Maps.{keys, put, keys-put}
-use Rattle.world_heap.specs.Views.{Bounds}
-use Rattle.world_heap.specs.Growth.{first_passed, grown}
+use Rattle.world_heap.specs.Growth.{grown}
 use Rattle.js_semantics.specs.World.{World, with_cell}
 use Rattle.js_semantics.specs.Prog.{Prog, bind, change, count_places}
 use Rattle.js_semantics.specs.Run.{receive, run}
@@ -17,33 +13,8 @@ use Rattle.js_semantics.proofs.Programs.{count_bind, place_none, places_some}
 use Rattle.js_machine.specs.declared.state.State.{State}
 use Rattle.js_machine.specs.declared.state.Control.TheVariants as controls
 use Rattle.js_machine.specs.declared.state.Next.TheVariants.{Made}
-use Rattle.js_machine.specs.Does.{Follows, world_of, budget_of, stack_rest, to_come, after, weights, work, left, Does, Moves}
-
--- whether locations follow the supply is told by the locations alone
-pub follows_keys : (supply : ℕ → ℕ) (n : ℕ) (xs ys : List (ℕ × Cell ℕ)) → keys xs ≡ keys ys → Follows supply n xs → Follows supply n ys
-follows_keys supply n [] [] is f = tt
-follows_keys supply n [] (y ∷ ys) is f = absurd (cc)
-follows_keys supply n (x ∷ xs) [] is f = absurd (cc)
-follows_keys supply n (x ∷ xs) (y ∷ ys) is f =
-    let first : x.0 ≡ y.0 = cc in
-    let others : keys xs ≡ keys ys = cc in
-    (sym first ∙ f.0, follows_keys supply (suc n) xs ys others f.1)
-
--- which counts pass no limit, and which pass that of places
-pub passed_none : (b : Bounds) (c : Counts) → first_passed b c ≡ None → c.places ≤ b.places
-passed_none b c h = go (nat_lt b.places c.places) refl (nat_lt b.units c.units) h
-  where
-    go : (x : Bool) → nat_lt b.places c.places ≡ x → (y : Bool) → (if x then Some FullPlaces else if y then Some FullUnits else None) ≡ None → c.places ≤ b.places
-    go true e y k = absurd (cc)
-    go false e y k = grind (arith, nat_tests)
-
-pub passed_places : (b : Bounds) (c : Counts) → first_passed b c ≡ Some FullPlaces → b.places < c.places
-passed_places b c h = go (nat_lt b.places c.places) refl (nat_lt b.units c.units) h
-  where
-    go : (x : Bool) → nat_lt b.places c.places ≡ x → (y : Bool) → (if x then Some FullPlaces else if y then Some FullUnits else None) ≡ Some FullPlaces → b.places < c.places
-    go true e y k = grind (arith, nat_tests)
-    go false e true k = absurd (cc)
-    go false e false k = absurd (cc)
+use Rattle.js_machine.specs.Does.{world_of, budget_of, stack_rest, to_come, after, weights, work, left, Does, Moves}
+use Rattle.js_machine.proofs.Changing.{follows_keys}
 
 -- a cell takes the place of another, and so many places more
 pub moves_write : (nodes : List Node) (n loc : ℕ) (cell : Cell ℕ) (f : World ℕ → World ℕ) (p : Prog ℕ) (old mid : State) → ((supply : ℕ → ℕ) → f (world_of nodes supply old) ≡ with_cell loc cell (world_of nodes supply old)) → n ≤ old.heap.limits.places - old.heap.counts.places → mid ≡ record old { heap = record old.heap { cells = put nat_eq old.heap.cells loc cell; counts = grown old.heap.counts 0 n 0 } } → Moves nodes (count_places n (change f p)) old p mid

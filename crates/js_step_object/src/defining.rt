@@ -1,22 +1,18 @@
 //! The definition of a property of an object that is being made (ECMA-262, 7.3.5: CreateDataProperty).
-ghost use Rattle.std.specs.Prelude.{◌≡◌, ℕ, List, IfOk, None, Some, false, true, is_some, nat_eq};
+ghost use Rattle.std.specs.Prelude.{◌≡◌, List, IfOk, None, Some, false, true, is_some, nat_eq};
 ghost use Rattle.std.specs.Option.{option_map};
 ghost use Rattle.js_tree.specs.declared.node.Node as kind;
 ghost use Rattle.world_heap.specs.Heaps.{IsNoEnv};
 ghost use Rattle.world_heap.specs.Over.{PropertyOver};
-ghost use Rattle.world_heap.specs.Bodies.{HasBody};
 ghost use Rattle.world_heap.specs.Table.{found_under};
 ghost use Rattle.js_step_object.specs.Defining.{Defines, body_at};
 
-use js_machine::{Control, Next, State, is_fit, is_prototype, stopped};
+use js_machine::{Control, Next, State, discard, is_fit, is_prototype, stopped};
 use js_semantics::{Fault, StepFault};
 use proto_props::{add_property, put_property};
 use wl_text::Units;
 use world_heap::{Heap, HeapFault, Loc, Property, body};
 use world_log::Stop;
-
-/// Lets a value go. A generic function keeps the cases of its drop out of its callers' proofs.
-pub fn discard<T: Drop>(_value: T) {}
 
 // Whether a property may stand in a body: its number is in range, and its locations are those of objects.
 fn is_fit_property(heap: &Heap, property: &Property) -> bool

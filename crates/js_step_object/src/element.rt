@@ -13,11 +13,12 @@ ghost use Rattle.js_machine.specs.Parts.{items_of};
 ghost use Rattle.js_step_object.specs.Defining.{Comes, Makes};
 ghost use Rattle.js_step_object.specs.Elements.{is_open_array, spread_in};
 
-use crate::defining::discard;
 use crate::functions::Making;
-use crate::lists::{copy_scope, items_of, next_of, node_at};
 use crate::member::literal;
-use js_machine::{Control, LiteralFrame, Next, State, is_fit, stopped};
+use js_machine::{
+    Control, LiteralFrame, Next, State, copy_scope, discard, is_fit, items_of, next_of, node_at,
+    stopped,
+};
 use js_semantics::{Outcome, Scope, StepFault};
 use js_tree::{Node, NodeId, Tree};
 use proto_props::push_item;
@@ -83,7 +84,7 @@ pub fn push(state: &mut State, array: Loc, value: Value) -> Result<Option<Next>,
     }
 }
 
-// The node whose values a spread puts into an array, where a node is a spread.
+// The node whose values a spread gives, where a node is a spread.
 fn spread_in(node: &Node) -> Option<NodeId>
     ensures { result ≡ spread_in (Some node.now) }
 {
@@ -93,8 +94,9 @@ fn spread_in(node: &Node) -> Option<NodeId>
     }
 }
 
-// The same of the element with a number.
-fn spread_of(tree: &Tree, element: NodeId) -> Option<NodeId>
+/// The node whose values a spread puts into an array literal or among arguments, where the element with a number is a
+/// spread (ECMA-262, 13.2.4 and 13.3.8). The cost is constant.
+pub fn spread_of(tree: &Tree, element: NodeId) -> Option<NodeId>
     ensures { result ≡ spread_in (slice_get (nodes_of tree.now) element.0) }
 {
     match node_at(tree, element) {

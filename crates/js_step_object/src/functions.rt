@@ -1,14 +1,14 @@
 //! Functions (ECMA-262, 10.2.3, 10.2.5 and 15.2 to 15.3).
-ghost use Rattle.std.specs.Prelude.{◌≡◌, ℕ, [], ◌∷◌, List, IfOk, Some, None, false, true, codes};
+ghost use Rattle.std.specs.Prelude.{◌≡◌, [], ◌∷◌, List, IfOk, Some, None, false, true, codes};
 ghost use Rattle.js_tree.specs.declared.node.Node as kind;
 ghost use Rattle.js_semantics.specs.Environments.{bind_in, env_cell, unready};
 ghost use Rattle.js_semantics.specs.Objects.{make_closure, make_function, make_object, row_arrow, row_fun};
 ghost use Rattle.js_semantics.specs.Prog.{alloc, change, give};
 ghost use Rattle.js_machine.specs.Does.{Does};
-ghost use Rattle.js_step_object.specs.Defining.{Comes, Defines, Makes};
+ghost use Rattle.js_step_object.specs.Defining.{Defines, Makes};
 
-use crate::defining::{define, discard};
-use js_machine::{Next, State, stopped};
+use crate::defining::define;
+use js_machine::{Next, State, discard, stopped};
 use js_names::bind_in;
 use js_operators::short_text;
 use js_semantics::{Outcome, Scope, StepFault};

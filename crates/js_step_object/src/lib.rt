@@ -4,11 +4,10 @@
 mod defining;
 mod element;
 mod functions;
-mod lists;
 mod member;
 
 pub use defining::define;
-pub use element::{element_value, elements_from, push, row_array};
+pub use element::{element_value, elements_from, push, row_array, spread_of};
 pub use functions::{make_function, row_arrow, row_fun};
 pub use member::{
     Member, Part, member_keyed, members_from, property_value, row_member, row_object,

@@ -1,5 +1,5 @@
 //! The members of object literals (ECMA-262, 13.2.5).
-ghost use Rattle.std.specs.Prelude.{◌≡◌, ℕ, [], drop, slice_get, true, List, IfOk, Some, None};
+ghost use Rattle.std.specs.Prelude.{◌≡◌, drop, slice_get, true, List, IfOk, Some, None};
 ghost use Rattle.std.specs.Option.{option_copied, option_map};
 ghost use Rattle.js_tree.specs.declared.node.Node as kind;
 ghost use Rattle.js_names.specs.Patterns.{nodes_of};
@@ -15,10 +15,12 @@ ghost use Rattle.js_machine.specs.Parts.{items_of, key_part, written};
 ghost use Rattle.js_step_object.specs.Defining.{standing};
 ghost use Rattle.js_step_object.specs.Members.{computed_by, getter_of, member_in, member_property, setter_of};
 
-use crate::defining::{define, discard};
+use crate::defining::define;
 use crate::functions::{closure_of, plain_object};
-use crate::lists::{copy_scope, items_of, next_of, node_at};
-use js_machine::{Frame, LiteralFrame, Next, State, ValueFrame};
+use js_machine::{
+    Frame, LiteralFrame, Next, State, ValueFrame, copy_scope, discard, done, items_of, next_of,
+    node_at,
+};
 use js_operators::{key_of, short_text};
 use js_semantics::{Fault, Outcome, Scope, StepFault};
 use js_tree::{Node, NodeId, PropertyKey, Tree};
@@ -47,13 +49,6 @@ pub fn literal(frame: LiteralFrame) -> Frame
     ensures { result ≡ Frame.OnValue (ValueFrame.Literal frame) }
 {
     Frame::OnValue(ValueFrame::Literal(frame))
-}
-
-// Ends the row of a member.
-fn done(state: &mut State) -> Result<Next, StepFault>
-    ensures { (nodes : List kind.Node) → IfOk result (λ next. Does nodes 6 done state.old state.new next) }
-{
-    state.give(Outcome::Normal(Value::Undefined))
 }
 
 /// The members of an object literal from a place on, one after another, and then the object.

@@ -5,7 +5,6 @@ use Rattle.std.specs.List.{flat_map}
 use Rattle.std.proofs.lemmas.List.{map-append, append-nil}
 use Rattle.std.proofs.lemmas.List.Concat.{flat_map-cons}
 use Rattle.world_heap.specs.declared.value.Value.{Value}
-use Rattle.world_heap.specs.declared.value.Value.TheVariants.{Undefined}
 use Rattle.world_heap.specs.declared.cell.Binding.{Binding}
 use Rattle.world_heap.specs.declared.cell.Cell.{Cell}
 use Rattle.world_heap.specs.declared.cell.Cell.TheVariants.{Array}
@@ -23,19 +22,7 @@ use Rattle.js_semantics.specs.Access.{bind_value, or_default}
 use Rattle.js_semantics.specs.Environments.{bindings_at, declared_by, declared_in, env_cell, names_of, unready}
 use Rattle.js_semantics.specs.Statements.{copied_cell, copy_scope, bind_array_at, bind_elements, declare_pairs, for_from, for_start, inside, item_or_undefined, names_by, run_items}
 use Rattle.js_machine.specs.Frames.{declared_rest, element_bound}
-use Rattle.js_step_stmt.specs.Choices.{DefaultsTo, is_array_cell}
-
--- the default of what is undefined
-pub default_undefined : (default : Option NodeId) → DefaultsTo default Undefined default
-unfolding or_default
-default_undefined None = λ scope k. refl
-default_undefined (Some node) = λ scope k. refl
-
-pub default_other : (default : Option NodeId) (v : Value ℕ) → (v ≡ Undefined → ⊥) → DefaultsTo default v None
-unfolding or_default
-default_other None v differs = λ scope k. refl
-default_other (Some node) Undefined differs = absurd (differs refl)
-default_other (Some node) other differs = λ scope k. refl
+use Rattle.js_step_stmt.specs.Choices.{is_array_cell}
 
 -- the items, declarators and elements from a place on, where there is one more
 pub items_some : (xs rest : List NodeId) (item : NodeId) (scope : Scope ℕ) → xs ≡ item ∷ rest → run_items xs scope ≡ Enter (NodeRequest item scope) (λ o. on_value (λ u. run_items rest scope) o)

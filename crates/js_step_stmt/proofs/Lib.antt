@@ -1,5 +1,3 @@
-pub mod Behind
-pub mod Changing
 pub mod Choosing
 pub mod Ending
 pub mod Looping

@@ -1,21 +1,11 @@
 -- Which way a row goes.
-use Rattle.std.specs.Prelude.{◌≡◌, ℕ, Bool, true, false, Option, Some, None}
-use Rattle.world_heap.specs.declared.value.Value.{Value}
+use Rattle.std.specs.Prelude.{ℕ, Bool, true, false, Option, Some}
 use Rattle.world_heap.specs.declared.cell.Cell.{Cell}
 use Rattle.world_heap.specs.declared.cell.Cell.TheVariants.{Array}
-use Rattle.js_tree.specs.declared.node.NodeId.{NodeId}
-use Rattle.js_semantics.specs.declared.scope.Scope.{Scope}
-use Rattle.js_semantics.specs.Access.{or_default}
 use Rattle.js_tree.specs.declared.node.Node.{Node}
 use Rattle.js_tree.specs.declared.node.Node.TheVariants as kinds
 use Rattle.js_machine.specs.declared.frame.StatementFrame.{StatementFrame}
 use Rattle.js_machine.specs.declared.frame.StatementFrame.TheVariants as frames
-use Rattle.js_semantics.specs.Prog.{Prog, eval}
-
--- What is evaluated for a value that may be replaced by a default: the default, or nothing.
-abbrev pub DefaultsTo : Option NodeId → Value ℕ → Option NodeId → Type 0
-DefaultsTo default v None = (scope : Scope ℕ) (k : Value ℕ → Prog ℕ) → or_default default v scope k ≡ k v
-DefaultsTo default v (Some node) = (scope : Scope ℕ) (k : Value ℕ → Prog ℕ) → or_default default v scope k ≡ eval node scope k
 
 -- whether a cell is an array
 abbrev pub is_array_cell : Option (Cell ℕ) → Bool

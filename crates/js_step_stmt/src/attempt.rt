@@ -1,5 +1,5 @@
 //! The row of `try` (ECMA-262, 14.15).
-ghost use Rattle.std.specs.Prelude.{◌≡◌, ℕ, List, IfOk, Some};
+ghost use Rattle.std.specs.Prelude.{List, IfOk, Some};
 ghost use Rattle.js_tree.specs.declared.node.Node as kind;
 ghost use Rattle.js_names.specs.Patterns.{nodes_of};
 ghost use Rattle.js_semantics.specs.Access.{bind_value};
@@ -10,9 +10,8 @@ ghost use Rattle.js_machine.specs.Does.{Does};
 ghost use Rattle.js_machine.specs.Frames.{rest};
 
 use crate::environments::{inside, pattern_bindings};
-use crate::lists::copy_scope;
 use crate::simple::statement;
-use js_machine::{Control, Frame, Next, State, StatementFrame, stopped};
+use js_machine::{Control, Frame, Next, State, StatementFrame, copy_scope, stopped};
 use js_semantics::{Outcome, Scope, StepFault};
 use js_tree::{NodeId, Tree};
 use sqlite_items::Items;

@@ -8,9 +8,9 @@ ghost use Rattle.js_machine.specs.Does.{Does};
 ghost use Rattle.js_machine.specs.Parts.{declarators_of};
 ghost use Rattle.js_machine.specs.Frames.{statement_rest};
 
-use crate::lists::{copy_scope, declarators_of, next_of};
-use crate::simple::{done, statement};
-use js_machine::{Next, State, StatementFrame};
+use crate::lists::declarators_of;
+use crate::simple::statement;
+use js_machine::{Next, State, StatementFrame, copy_scope, done, next_of};
 use js_semantics::{Scope, StepFault};
 use js_tree::{NodeId, Tree};
 use world_heap::Value;

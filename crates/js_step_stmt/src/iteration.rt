@@ -9,10 +9,9 @@ ghost use Rattle.js_machine.specs.Does.{Does};
 ghost use Rattle.js_machine.specs.Frames.{rest, statement_rest};
 
 use crate::environments::{inside, pattern_bindings};
-use crate::lists::copy_scope;
 use crate::patterns::item_at;
-use crate::simple::{done, statement};
-use js_machine::{Frame, Next, State, StatementFrame, stopped};
+use crate::simple::statement;
+use js_machine::{Frame, Next, State, StatementFrame, copy_scope, done, stopped};
 use js_semantics::{Outcome, Scope, StepFault};
 use js_tree::{NodeId, Tree};
 use sqlite_items::Items;

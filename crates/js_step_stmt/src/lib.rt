@@ -20,15 +20,14 @@ pub use dispatch::{row_statement, statement_end};
 pub use environments::inside;
 pub use items::run_items;
 pub use iteration::{Walk, of_body_end, of_bound, of_turn, row_for_of};
-pub use lists::{items_of, node_at};
 pub use loops::{
     do_body_end, do_tested, enter_for, for_tested, row_do_while, row_while, while_body_end,
     while_tested,
 };
-pub use patterns::{bind_array, bind_elements, bind_name, element_defaulted};
+pub use patterns::{bind_array, bind_elements, bind_name, element_defaulted, pattern};
 pub use script::script_end;
 pub use simple::{
-    done, expression_end, if_end, return_end, row_expression, row_if, row_return, row_throw,
-    run_or_done, throw_end,
+    expression_end, if_end, return_end, row_expression, row_if, row_return, row_throw, run_or_done,
+    throw_end,
 };
 pub use turns::{for_body_end, for_start, row_for};

@@ -1,14 +1,13 @@
 //! The rows of `while`, `do` and `for` (ECMA-262, 14.7.2 to 14.7.4).
-ghost use Rattle.std.specs.Prelude.{◌≡◌, ℕ, List, IfOk};
+ghost use Rattle.std.specs.Prelude.{List, IfOk};
 ghost use Rattle.js_tree.specs.declared.node.Node as kind;
 ghost use Rattle.js_semantics.specs.Prog.{DoWhile, End, Enter, For, While};
-ghost use Rattle.js_semantics.specs.Statements.{copy_scope, for_start, for_turn, row_do_while, row_while, run_next};
+ghost use Rattle.js_semantics.specs.Statements.{copy_scope, row_do_while, row_while, run_next};
 ghost use Rattle.js_machine.specs.Does.{Does};
 ghost use Rattle.js_machine.specs.Frames.{rest, statement_rest};
 
-use crate::lists::copy_scope;
-use crate::simple::{done, statement};
-use js_machine::{ForLoop, Frame, Next, State, StatementFrame};
+use crate::simple::statement;
+use js_machine::{ForLoop, Frame, Next, State, StatementFrame, copy_scope, done};
 use js_operators::is_truthy;
 use js_semantics::{Outcome, Scope, StepFault};
 use js_tree::NodeId;

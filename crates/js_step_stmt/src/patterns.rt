@@ -9,14 +9,15 @@ ghost use Rattle.js_semantics.specs.Iteration.{items_at};
 ghost use Rattle.js_semantics.specs.Prog.{change, done};
 ghost use Rattle.js_semantics.specs.Statements.{bind_array, bind_elements, item_or_undefined};
 ghost use Rattle.world_heap.specs.declared.value.Value.TheVariants.{Ref};
-ghost use Rattle.js_step_stmt.specs.Choices.{DefaultsTo, is_array_cell};
+ghost use Rattle.js_step_stmt.specs.Choices.{is_array_cell};
 ghost use Rattle.js_machine.specs.Does.{Does};
 ghost use Rattle.js_machine.specs.Parts.{elements_of};
 ghost use Rattle.js_machine.specs.Frames.{pattern_rest};
 
-use crate::lists::{copy_scope, elements_of, next_of};
-use crate::simple::done;
-use js_machine::{Frame, Next, PatternFrame, State, ValueFrame};
+use crate::lists::elements_of;
+use js_machine::{
+    Frame, Next, PatternFrame, State, ValueFrame, copy_scope, default_of, done, next_of,
+};
 use js_names::fill_name;
 use js_semantics::{Fault, Scope, StepFault};
 use js_tree::{BindElement, NodeId, Tree};
@@ -25,7 +26,7 @@ use wl_text::Units;
 use world_heap::{Cell, Heap, Loc, Value};
 
 /// A frame of a pattern.
-fn pattern(frame: PatternFrame) -> Frame
+pub fn pattern(frame: PatternFrame) -> Frame
     ensures { result ≡ Frame.OnValue (ValueFrame.Pattern frame) }
 {
     Frame::OnValue(ValueFrame::Pattern(frame))
@@ -92,16 +93,6 @@ fn bind_element(
         scope,
     };
     state.bind(pattern(frame), bind, value, inner)
-}
-
-// What is evaluated for an element that is undefined, where it has a default.
-fn default_of(value: &Value, default: Option<NodeId>) -> Option<NodeId>
-    ensures { DefaultsTo default value.now result }
-{
-    match value {
-        Value::Undefined => default,
-        _ => None,
-    }
 }
 
 // The value of an element, which is undefined where the array ends before it.

@@ -1,15 +1,11 @@
 //! The rows of statements that end at once or enter one node (ECMA-262, 14.5, 14.6, 14.10 and 14.14).
-ghost use Rattle.std.specs.Prelude.{◌≡◌, ℕ, List, IfOk};
+ghost use Rattle.std.specs.Prelude.{◌≡◌, List, IfOk};
 ghost use Rattle.js_tree.specs.declared.node.Node as kind;
-ghost use Rattle.world_heap.specs.declared.value.Value.TheVariants.{Undefined};
-ghost use Rattle.js_semantics.specs.declared.outcome.Outcome.TheVariants.{Normal};
-ghost use Rattle.js_semantics.specs.Prog.{End};
 ghost use Rattle.js_semantics.specs.Statements.{row_expression, row_if, row_return, row_throw, run_or_done};
 ghost use Rattle.js_machine.specs.Does.{Does};
 ghost use Rattle.js_machine.specs.Frames.{statement_rest};
 
-use crate::lists::copy_scope;
-use js_machine::{Frame, Next, State, StatementFrame, ValueFrame};
+use js_machine::{Frame, Next, State, StatementFrame, ValueFrame, copy_scope, done};
 use js_operators::is_truthy;
 use js_semantics::{Outcome, Scope, StepFault};
 use js_tree::NodeId;
@@ -20,13 +16,6 @@ pub fn statement(frame: StatementFrame) -> Frame
     ensures { result ≡ Frame.OnValue (ValueFrame.Statement frame) }
 {
     Frame::OnValue(ValueFrame::Statement(frame))
-}
-
-/// Ends a statement (ECMA-262, 14.5.1).
-pub fn done(state: &mut State) -> Result<Next, StepFault>
-    ensures { (nodes : List kind.Node) → IfOk result (λ next. Does nodes 6 (End (Normal Undefined)) state.old state.new next) }
-{
-    state.give(Outcome::Normal(Value::Undefined))
 }
 
 /// An expression statement (ECMA-262, 14.5).

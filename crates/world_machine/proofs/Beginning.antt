@@ -1,5 +1,5 @@
 -- A new world in a pool.
-use Rattle.std.proofs.Common.{◌≡◌, ◌≢◌, ℕ, suc, ◌+◌, ◌<◌, ◌≤◌, List, [], ◌∷◌, length, false, Some, nat_eq, refl, sym, ap, ◌∙◌, subst, arith}
+use Rattle.std.proofs.Common.{◌≡◌, ℕ, ◌+◌, List, [], length, false, Some, nat_eq, refl, sym, ap, ◌∙◌, subst, arith}
 use Rattle.js_tree.specs.declared.node.Node.{Node}
 use Rattle.world_kind.specs.declared.WorldKind.{WorldKind}
 use Rattle.world_heap.specs.Maps.{keys, find, without, stands}
@@ -11,14 +11,17 @@ use Rattle.js_semantics.specs.Alone.{IsRenamed, alone, alone_by}
 use Rattle.js_semantics.specs.Run.{Arrival, Setting, Trace, entries}
 use Rattle.js_semantics.proofs.Relocating.{alone_same}
 use Rattle.js_machine.specs.declared.state.State.{State}
-use Rattle.js_machine.specs.declared.state.Control.{Control}
 use Rattle.js_machine.specs.Does.{Follows, IsFresh, is_running, to_come}
+use Rattle.alone_laws.specs.Sizes.{IsOneSize, alone_cells, cells_at_end}
 use Rattle.alone_laws.specs.Turns.{IsYielding, Turns}
+use Rattle.alone_laws.proofs.Sizing.{one_size}
 use Rattle.alone_laws.proofs.Turning.{yielding}
 use Rattle.world_machine.specs.declared.machine.Machine.{Machine}
 use Rattle.world_machine.specs.declared.world.World.{World}
-use Rattle.world_machine.specs.World.{IsBegun, IsIn, Parts, Promises, Sits, heap_in, owner_of, state_over}
-use Rattle.world_machine.proofs.Pools.{coming_by, find-without, in_by, machine_in, owner_by, spares_by, stands-without}
+use Rattle.world_machine.specs.World.{Counts, IsBegun, Parts, Promises, Sits, heap_in, state_over}
+use Rattle.world_machine.proofs.Coming.{still}
+use Rattle.world_machine.proofs.Supplying.{some_supply}
+use Rattle.world_machine.proofs.Pools.{coming_by, filling_by, find-without, in_by, machine_in, owner_by, size_by, spares_by, stands-without}
 
 -- what a first state makes is what its world makes alone, in turns
 module _ (nodes : List Node) (setting : Setting) (s : State) (m : Machine) (pool : PoolView) (p : Parts s m pool) (traces : (supply : ℕ → ℕ) (ds : List Arrival) → Follows supply 0 s.heap.cells → to_come nodes supply s ds ≡ alone_by supply setting ds) where
@@ -34,9 +37,13 @@ module _ (nodes : List Node) (setting : Setting) (s : State) (m : Machine) (pool
   unfolding IsRenamed
   alone_in supply ds distinct f = ap entries (traces_in supply ds f) ∙ alone_same supply setting ds (λ a b ma mb e. distinct a b e)
 
+  counted_in : Counts nodes m (values_of pool.maps m.seat.owner) (alone_cells setting)
+  unfolding IsOneSize
+  counted_in supply ds distinct f = ap cells_at_end (traces_in supply ds f) ∙ one_size supply setting ds (λ a b ma mb e. distinct a b e)
+
 pub begun : (script : List (Node × ℕ)) (kind : WorldKind) (limits : Bounds) (old : PoolView) (s : State) (m : Machine) (new : PoolView) → IsFresh kind (with_built_in (empty_heap limits old) s.heap.cells) s
     → ((supply : ℕ → ℕ) (ds : List Arrival) → Follows supply 0 s.heap.cells → to_come (nodes_of script) supply s ds ≡ alone_by supply (record { kind = kind; limits = limits; tree = nodes_of script }) ds)
-    → Parts s m new → IsBegun (alone (record { kind = kind; limits = limits; tree = nodes_of script })) old (record { script = script; machine = Some m }) new
+    → Parts s m new → IsBegun (alone (record { kind = kind; limits = limits; tree = nodes_of script })) (alone_cells (record { kind = kind; limits = limits; tree = nodes_of script })) old (record { script = script; machine = Some m }) new
 begun script kind limits old s m new fresh traces p =
     let nodes = nodes_of script in
     let setting : Setting = record { kind = kind; limits = limits; tree = nodes } in
@@ -57,6 +64,10 @@ begun script kind limits old s m new fresh traces p =
     record {
       stands = in_by world new m refl sits;
       comes = coming_by world new m (alone setting) refl (alone_in nodes setting s m new p traces);
+      fills = filling_by world new m (alone_cells setting) refl (counted_in nodes setting s m new p traces);
+      size =
+          let some = some_supply (values_of new.maps m.seat.owner) p.distinct in
+          size_by world new m refl ∙ sym (still nodes some.0 (state_over m (heap_in m.seat new)) waits) ∙ counted_in nodes setting s m new p traces some.0 [] some.1 some.2;
       apart = λ w h e.
           let at = machine_in w old h in
           let same : Some at.0.seat.owner ≡ Some m.seat.owner = sym (owner_by w at.0 at.1) ∙ e ∙ own in

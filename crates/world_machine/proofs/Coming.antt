@@ -1,5 +1,5 @@
 -- What is still to come from a state, and the entries of its turns.
-use Rattle.std.proofs.Common.{◌≡◌, ℕ, suc, List, [], ◌∷◌, ◌++◌, length, map, drop, Bool, true, false, not, Some, refl, sym, ap, ◌∙◌, subst, slice_get, ◌-◌, ◌+◌, arith}
+use Rattle.std.proofs.Common.{◌≡◌, ℕ, suc, List, [], ◌∷◌, ◌++◌, length, map, Bool, true, false, not, Some, refl, sym, ap, ◌∙◌, subst, slice_get, ◌-◌, arith}
 use Rattle.std.specs.Prelude.{if◌then◌else◌}
 use Rattle.js_tree.specs.declared.node.Node.{Node}
 use Rattle.world_log.specs.declared.entry.Delivery.{Delivery}
@@ -15,7 +15,8 @@ use Rattle.js_semantics.specs.Run.{Arrival, Budget, Trace, Then, Cut, entries, r
 use Rattle.js_machine.specs.declared.state.State.{State}
 use Rattle.js_machine.specs.declared.state.Control.{Control}
 use Rattle.js_machine.specs.declared.state.Control.TheVariants as controls
-use Rattle.js_machine.specs.Does.{after, awaits_in, budget_of, control_prog, does_await, is_running, stack_rest, to_come, world_of}
+use Rattle.js_machine.specs.Does.{after, awaits_in, budget_of, control_prog, is_running, stack_rest, to_come, world_of}
+use Rattle.alone_laws.specs.Sizes.{cells_at_end}
 use Rattle.alone_laws.specs.Turns.{Turns}
 use Rattle.world_machine.specs.declared.yielding.Yield.{Yield}
 use Rattle.world_machine.specs.declared.yielding.Yield.TheVariants.{Rest, Stopped}
@@ -26,6 +27,27 @@ use Rattle.world_machine.specs.World.{Takes}
 pub entries-after : (ps : List Product) (t : Trace ℕ) → entries (after ps t) ≡ map entry.Product ps ++ entries t
 entries-after [] t = refl
 entries-after (p ∷ ps) t = ap (λ es. entry.Product p ∷ es) (entries-after ps t)
+
+-- the cells behind products
+pub cells-after : (ps : List Product) (t : Trace ℕ) → cells_at_end (after ps t) ≡ cells_at_end t
+cells-after [] t = refl
+cells-after (p ∷ ps) t = cells-after ps t
+
+-- where nothing runs, the cells stay
+still_run : (c : Control ℕ) (b : Budget) (w : World ℕ) (k : Cont ℕ) → is_running c ≡ false → cells_at_end (run [] b w (control_prog c k)) ≡ length w.heap
+unfolding run
+still_run (controls.Wait m) b w k h = refl
+still_run controls.Stop b w k h = refl
+still_run (controls.Script node) b w k h = absurd (cc)
+still_run (controls.Node node scope) b w k h = absurd (cc)
+still_run (controls.Bind node value scope) b w k h = absurd (cc)
+still_run (controls.Member node object scope) b w k h = absurd (cc)
+still_run (controls.Native id receiver arguments) b w k h = absurd (cc)
+still_run (controls.Give o) b w k h = absurd (cc)
+still_run (controls.AtRest m) b w k h = absurd (cc)
+
+pub still : (nodes : List Node) (supply : ℕ → ℕ) (s : State) → is_running s.control ≡ false → cells_at_end (to_come nodes supply s []) ≡ length s.heap.cells
+still nodes supply s h = still_run s.control (budget_of s) (world_of nodes supply s) (stack_rest nodes s) h
 
 -- where nothing runs, nothing comes without a delivery
 quiet_run : (c : Control ℕ) (b : Budget) (w : World ℕ) (k : Cont ℕ) → is_running c ≡ false → entries (run [] b w (control_prog c k)) ≡ []

@@ -1,9 +1,9 @@
 -- Worlds of a pool, beside one that moves.
-use Rattle.std.proofs.Common.{◌≡◌, ◌≢◌, ℕ, suc, ◌+◌, ◌<◌, ◌≤◌, List, [], ◌∷◌, length, Bool, true, false, Option, Some, None, option_map, unwrap_or, nat_eq, if◌then◌else◌, refl, sym, ap, ◌∙◌, subst, arith}
+use Rattle.std.proofs.Common.{◌≡◌, ◌≢◌, ℕ, ◌≤◌, List, [], ◌∷◌, length, true, false, Some, None, option_map, unwrap_or, nat_eq, if◌then◌else◌, refl, sym, ap, ◌∙◌, subst, arith}
 use Rattle.std.proofs.lemmas.Bool.Decides.{nat_tests}
 use Rattle.std.specs.Prelude.{IsSomeAnd, IfSome}
+use Rattle.std.specs.Option.{option_map_or}
 use Rattle.js_tree.specs.declared.node.Node.{Node}
-use Rattle.world_heap.specs.declared.cell.Cell.{Cell}
 use Rattle.world_heap.specs.Maps.{keys, find, without, stands, Stands}
 use Rattle.world_heap.specs.Shelf.{values_of}
 use Rattle.world_heap.specs.Stored.{IsDistinct}
@@ -15,7 +15,7 @@ use Rattle.js_machine.specs.Does.{Follows}
 use Rattle.alone_laws.specs.Turns.{Turns}
 use Rattle.world_machine.specs.declared.machine.Machine.{Machine}
 use Rattle.world_machine.specs.declared.world.World.{World}
-use Rattle.world_machine.specs.World.{IsComing, IsIn, IsSpared, Promises, Sits, Spares, coming_from, owner_of}
+use Rattle.world_machine.specs.World.{Counts, IsComing, IsFilling, IsIn, Promises, Sits, Spares, coming_from, owner_of, size_in}
 
 module _ {C : Type 0} where
   pub find-without : (maps : List (ℕ × C)) (o k : ℕ) → k ≢ o → find nat_eq (without nat_eq maps o) k ≡ find nat_eq maps k
@@ -76,6 +76,18 @@ pub owner_by : (w : World) (m : Machine) → w.machine ≡ Some m → owner_of w
 unfolding owner_of
 owner_by w m e = ap (option_map (λ (m : Machine). m.seat.owner)) e
 
+pub filling_by : (w : World) (pool : PoolView) (m : Machine) (count : List Arrival → ℕ) → w.machine ≡ Some m → Counts (nodes_of w.script) m (values_of pool.maps m.seat.owner) count → IsFilling w pool count
+unfolding IsFilling
+filling_by w pool m count e h = subst (λ x. IfSome x (λ m. Counts (nodes_of w.script) m (values_of pool.maps m.seat.owner) count)) (sym e) h
+
+pub counts_by : (w : World) (pool : PoolView) (m : Machine) (count : List Arrival → ℕ) → w.machine ≡ Some m → IsFilling w pool count → Counts (nodes_of w.script) m (values_of pool.maps m.seat.owner) count
+unfolding IsFilling
+counts_by w pool m count e h = subst (λ x. IfSome x (λ m. Counts (nodes_of w.script) m (values_of pool.maps m.seat.owner) count)) e h
+
+pub size_by : (w : World) (pool : PoolView) (m : Machine) → w.machine ≡ Some m → size_in w pool ≡ length (values_of pool.maps m.seat.owner)
+unfolding size_in
+size_by w pool m e = ap (λ x. option_map_or (λ (m : Machine). length (values_of pool.maps m.seat.owner)) x 0) e
+
 -- where a pool differs at one owner alone, the other worlds stay as they were
 pub spares_by : (world : World) (o : ℕ) (old new : PoolView) → owner_of world ≡ Some o → ((k : ℕ) → k ≢ o → find nat_eq new.maps k ≡ find nat_eq old.maps k) → ((k : ℕ) → k ≢ o → stands nat_eq (keys new.maps) k ≡ stands nat_eq (keys old.maps) k) → old.given ≤ new.given → Spares world old new
 spares_by world o old new own finds stand more w apart h =
@@ -85,6 +97,8 @@ spares_by world o old new own finds stand more w apart h =
     let cells : values_of old.maps m.seat.owner ≡ values_of new.maps m.seat.owner = sym (ap (λ x. unwrap_or x []) (finds m.seat.owner other)) in
     record {
       stands = in_by w new m at.1 (sits_still (nodes_of w.script) m old new at.2 cells (stand m.seat.owner other ∙ at.2.owned.stands) more);
+      fills = λ count c. filling_by w new m count at.1 (subst (λ cs. Counts (nodes_of w.script) m cs count) cells (counts_by w old m count at.1 c));
+      size = size_by w new m at.1 ∙ sym (ap length cells) ∙ sym (size_by w old m at.1);
       comes = λ coming c. coming_by w new m coming at.1 (subst (λ cs. Promises (nodes_of w.script) m cs coming) cells (promises_by w old m coming at.1 c));
     }
 

@@ -1,5 +1,5 @@
 -- A world takes a delivery, and a world ends.
-use Rattle.std.proofs.Common.{◌≡◌, ◌≢◌, ℕ, suc, ◌+◌, ◌<◌, ◌≤◌, List, [], ◌∷◌, ◌++◌, length, map, drop, Bool, true, false, Some, nat_eq, refl, sym, ap, ◌∙◌, subst, arith}
+use Rattle.std.proofs.Common.{◌≡◌, ℕ, suc, ◌+◌, ◌≤◌, List, [], ◌∷◌, ◌++◌, length, map, drop, true, false, Some, nat_eq, refl, sym, ap, ◌∙◌, subst, arith}
 use Rattle.js_tree.specs.declared.node.Node.{Node}
 use Rattle.world_heap.specs.declared.cell.Cell.{Cell}
 use Rattle.std.specs.Option.{option_map_or}
@@ -17,15 +17,16 @@ use Rattle.js_semantics.specs.Run.{Arrival, entries}
 use Rattle.js_machine.specs.declared.state.State.{State}
 use Rattle.js_machine.specs.Does.{Follows, awaits_in, is_running, to_come}
 use Rattle.js_step.specs.Resuming.{Resumes as StepResumes}
+use Rattle.alone_laws.specs.Sizes.{cells_at_end}
 use Rattle.alone_laws.specs.Turns.{Turns}
 use Rattle.world_machine.specs.declared.machine.Machine.{Machine}
 use Rattle.world_machine.specs.declared.world.World.{World}
 use Rattle.world_machine.specs.declared.yielding.Yield.{Yield}
 use Rattle.world_machine.specs.declared.yielding.Yield.TheVariants.{Stopped}
 use Rattle.world_machine.specs.Yields.{EndsBy}
-use Rattle.world_machine.specs.World.{AreDistinct, IsComing, IsEnded, IsIn, Parts, Promises, Resumes, Sits, Spares, Takes, behind, coming_from, heap_in, is_awaited, owner_of, state_over}
-use Rattle.world_machine.proofs.Coming.{ends_by, entries-after, none_behind, quiet, takes, turns_behind}
-use Rattle.world_machine.proofs.Pools.{coming_by, find-without, in_by, owner_by, promises_by, sits_at, spares_by, spares_without, stands-without}
+use Rattle.world_machine.specs.World.{AreDistinct, Counts, IsComing, IsEnded, IsFilling, IsIn, Parts, Promises, Resumes, Sits, Spares, behind, coming_from, trace_from, heap_in, is_awaited, owner_of, state_over}
+use Rattle.world_machine.proofs.Coming.{cells-after, ends_by, entries-after, none_behind, quiet, still, takes, turns_behind}
+use Rattle.world_machine.proofs.Pools.{coming_by, counts_by, filling_by, find-without, in_by, owner_by, promises_by, sits_at, size_by, spares_by, spares_without, stands-without}
 use Rattle.world_machine.proofs.Supplying.{some_supply}
 
 drop_made : (ps : List Product) (es : List Entry) → drop (length ps) (map entry.Product ps ++ es) ≡ es
@@ -59,12 +60,27 @@ module _ (script : List Node) (d : Arrival) (o m : Machine) (old new : PoolView)
   unfolding before
   turn supply ds f = subst (Turns false) (taken supply ds f) (h.turns supply (d ∷ ds) (follows_old supply f))
 
+  counted : (supply : ℕ → ℕ) (ds : List Arrival) → Follows supply 0 now → cells_at_end (trace_from script supply o before (d ∷ ds)) ≡ cells_at_end (trace_from script supply m now ds)
+  unfolding before now
+  counted supply ds f =
+      sym (ap (λ (x : State). cells_at_end (to_come script supply x (d ∷ ds))) s_is) ∙ ap cells_at_end (r.law supply ds (follows_new supply f)) ∙ cells-after made (to_come script supply t ds)
+      ∙ sym (ap (λ (x : State). cells_at_end (to_come script supply x ds)) p.state)
+
+  fills : (count : List Arrival → ℕ) → Counts script o before count → Counts script m now (λ ds. count (d ∷ ds))
+  unfolding before
+  fills count c supply ds a f = sym (counted supply ds f) ∙ c supply (d ∷ ds) a (follows_old supply f)
+
   waits : is_running m.control ≡ false
   waits = ap (λ (x : State). is_running x.control) p.state ∙ r.ends
 
   quiet_now : (supply : ℕ → ℕ) → coming_from script supply m now [] ≡ []
   unfolding now
   quiet_now supply = quiet script supply (state_over m (heap_in m.seat new)) waits
+
+  size : (count : List Arrival → ℕ) → Counts script o before count → length now ≡ count (d ∷ [])
+  unfolding now
+  size count c =
+      let some = some_supply now p.distinct in sym (still script some.0 (state_over m (heap_in m.seat new)) waits) ∙ fills count c some.0 [] some.1 some.2
 
   ends : (y : Yield) × EndsBy y made
   unfolding now
@@ -144,11 +160,14 @@ resumed w v script d o m old new s t made wo vm ws vs stands s_is r p y e =
     let h : Sits nodes o old = subst (λ x. Sits (nodes_of x) o old) ws (sits_at w old o wo stands) in
     let is_owner = owner nodes d o m old new s t made h s_is r p in
     let into : (coming : List Arrival → List Entry) → IsComing w old coming → Promises nodes o (values_of old.maps o.seat.owner) coming = λ coming c. subst (λ x. Promises (nodes_of x) o (values_of old.maps o.seat.owner) coming) ws (promises_by w old o coming wo c) in
+    let counted_by : (count : List Arrival → ℕ) → IsFilling w old count → Counts nodes o (values_of old.maps o.seat.owner) count = λ count c. subst (λ x. Counts (nodes_of x) o (values_of old.maps o.seat.owner) count) ws (counts_by w old o count wo c) in
     record {
       stands = in_by v new m vm (subst (λ x. Sits (nodes_of x) m new) (sym vs) (sits nodes d o m old new s t made h s_is r p y e));
       comes = λ coming c. coming_by v new m _ vm (subst (λ x. Promises (nodes_of x) m (values_of new.maps m.seat.owner) (behind coming d made)) (sym vs) (comes nodes d o m old new s t made h s_is r p y e coming (into coming c)));
       law = λ coming ds c. law nodes d o m old new s t made h s_is r p y e coming (into coming c) ds;
       rests = λ coming c. rests nodes d o m old new s t made h s_is r p y e coming (into coming c);
+      fills = λ count c. filling_by v new m _ vm (subst (λ x. Counts (nodes_of x) m (values_of new.maps m.seat.owner) (λ ds. count (d ∷ ds))) (sym vs) (fills nodes d o m old new s t made h s_is r p count (counted_by count c)));
+      size = λ count c. size_by v new m vm ∙ size nodes d o m old new s t made h s_is r p count (counted_by count c);
       yields = e;
       stops = λ coming stop ds q c. stops nodes d o m old new s t made h s_is r p y e coming (into coming c) stop ds q;
       closed = λ stop what q. ap (λ x. option_map_or (λ (n : Machine). awaits_in n.control n.loaded what) x false) vm ∙ closed nodes d o m old new s t made h s_is r p y e stop what q;

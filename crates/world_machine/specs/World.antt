@@ -13,9 +13,10 @@ use Rattle.world_log.specs.declared.entry.Product as log
 use Rattle.world_log.specs.declared.entry.Entry.{Entry}
 use Rattle.world_log.specs.declared.entry.Entry.TheVariants as entry
 use Rattle.js_names.specs.Patterns.{nodes_of}
-use Rattle.js_semantics.specs.Run.{Arrival, entries}
+use Rattle.js_semantics.specs.Run.{Arrival, Trace, entries}
 use Rattle.js_machine.specs.declared.state.State.{State}
 use Rattle.js_machine.specs.Does.{Follows, awaits_in, is_running, to_come}
+use Rattle.alone_laws.specs.Sizes.{cells_at_end}
 use Rattle.alone_laws.specs.Turns.{Turns}
 use Rattle.world_machine.specs.declared.machine.Machine.{Machine}
 use Rattle.world_machine.specs.declared.world.World.{World}
@@ -59,13 +60,20 @@ pub record Parts (s : State) (m : Machine) (pool : PoolView) : Type 0 where
 abbrev pub AreDistinct : (ℕ → ℕ) → Type 0
 AreDistinct supply = (a b : ℕ) → supply a ≡ supply b → a ≡ b
 
--- the entries still to come from a machine over these cells, with these deliveries
+-- what is still to come from a machine over these cells, with these deliveries
+abbrev pub trace_from : List nodes.Node → (ℕ → ℕ) → Machine → List (ℕ × Cell ℕ) → List Arrival → Trace ℕ
+trace_from script supply m cells ds = to_come script supply (state_over m (record { owner = m.seat.owner; cells = cells; others = []; counts = m.seat.counts; limits = m.seat.limits; base = m.seat.base; given = 0 })) ds
+
 abbrev pub coming_from : List nodes.Node → (ℕ → ℕ) → Machine → List (ℕ × Cell ℕ) → List Arrival → List Entry
-coming_from script supply m cells ds = entries (to_come script supply (state_over m (record { owner = m.seat.owner; cells = cells; others = []; counts = m.seat.counts; limits = m.seat.limits; base = m.seat.base; given = 0 })) ds)
+coming_from script supply m cells ds = entries (trace_from script supply m cells ds)
 
 -- what is still to come, whatever distinct locations the cells get that will be made
 abbrev pub Promises : List nodes.Node → Machine → List (ℕ × Cell ℕ) → (List Arrival → List Entry) → Type 0
 Promises script m cells coming = (supply : ℕ → ℕ) (ds : List Arrival) → AreDistinct supply → Follows supply 0 cells → coming_from script supply m cells ds ≡ coming ds
+
+-- how many cells there will be
+abbrev pub Counts : List nodes.Node → Machine → List (ℕ × Cell ℕ) → (List Arrival → ℕ) → Type 0
+Counts script m cells count = (supply : ℕ → ℕ) (ds : List Arrival) → AreDistinct supply → Follows supply 0 cells → cells_at_end (trace_from script supply m cells ds) ≡ count ds
 
 -- A machine has its cells in the pool, waits or has stopped, and makes turns.
 pub record Sits (script : List nodes.Node) (m : Machine) (pool : PoolView) : Type 0 where
@@ -89,6 +97,14 @@ IsIn world pool = IsSomeAnd world.machine (λ m. Sits (nodes_of world.script) m 
 unfoldable pub IsComing : World → PoolView → (List Arrival → List Entry) → Type 0
 IsComing world pool coming = IfSome world.machine (λ m. Promises (nodes_of world.script) m (values_of pool.maps m.seat.owner) coming)
 
+-- So many cells a world in its pool will have after each list of further deliveries, those that are built in among them.
+unfoldable pub IsFilling : World → PoolView → (List Arrival → ℕ) → Type 0
+IsFilling world pool count = IfSome world.machine (λ m. Counts (nodes_of world.script) m (values_of pool.maps m.seat.owner) count)
+
+-- how many cells a world has in its pool
+unfoldable pub size_in : World → PoolView → ℕ
+size_in world pool = option_map_or (λ m. length (values_of pool.maps m.seat.owner)) world.machine 0
+
 -- whether a delivery may come
 unfoldable pub is_awaited : World → Delivery → Bool
 is_awaited world what = option_map_or (λ m. awaits_in m.control m.loaded what) world.machine false
@@ -110,6 +126,8 @@ IsPut s old new pool = (m : Machine) × (new ≡ record old { machine = Some m }
 pub record IsSpared (w : World) (old new : PoolView) : Type 0 where
   pub stands : IsIn w new
   pub comes : (coming : List Arrival → List Entry) → IsComing w old coming → IsComing w new coming
+  pub fills : (count : List Arrival → ℕ) → IsFilling w old count → IsFilling w new count
+  pub size : size_in w new ≡ size_in w old
 
 -- all worlds of a pool but one stay as they were
 abbrev pub Spares : World → PoolView → PoolView → Type 0
@@ -119,10 +137,12 @@ Spares world old new = (w : World) → owner_of w ≢ owner_of world → IsIn w 
 abbrev pub behind : (List Arrival → List Entry) → Arrival → List log.Product → List Arrival → List Entry
 behind coming d made ds = drop (suc (length made)) (coming (d ∷ ds))
 
--- A new world in a pool: what is to come from it is this.
-pub record IsBegun (coming : List Arrival → List Entry) (old : PoolView) (world : World) (new : PoolView) : Type 0 where
+-- A new world in a pool: what is to come from it is this, and it will have so many cells.
+pub record IsBegun (coming : List Arrival → List Entry) (cells : List Arrival → ℕ) (old : PoolView) (world : World) (new : PoolView) : Type 0 where
   pub stands : IsIn world new
   pub comes : IsComing world new coming
+  pub fills : IsFilling world new cells
+  pub size : size_in world new ≡ cells []
   pub apart : (w : World) → IsIn w old → owner_of w ≢ owner_of world
   pub spares : Spares world old new
   pub given : new.given ≡ old.given + 1
@@ -134,6 +154,8 @@ pub record Resumes (d : Arrival) (old : World) (before : PoolView) (made : List 
   pub comes : (coming : List Arrival → List Entry) → IsComing old before coming → IsComing new after (behind coming d made)
   pub law : (coming : List Arrival → List Entry) (ds : List Arrival) → IsComing old before coming → coming (d ∷ ds) ≡ entry.Delivery d.fresh d.what ∷ (map entry.Product made ++ behind coming d made ds)
   pub rests : (coming : List Arrival → List Entry) → IsComing old before coming → behind coming d made [] ≡ []
+  pub fills : (cells : List Arrival → ℕ) → IsFilling old before cells → IsFilling new after (λ ds. cells (d ∷ ds))
+  pub size : (cells : List Arrival → ℕ) → IsFilling old before cells → size_in new after ≡ cells (d ∷ [])
   pub yields : EndsBy y made
   pub stops : (coming : List Arrival → List Entry) (stop : _) (ds : List Arrival) → y ≡ Stopped stop → IsComing old before coming → behind coming d made ds ≡ []
   pub closed : (stop : _) (what : Delivery) → y ≡ Stopped stop → is_awaited new what ≡ false

@@ -9,3 +9,7 @@ mod yielding;
 pub use fault::ResumeFault;
 pub use world::World;
 pub use yielding::Yield;
+
+
+#[cfg(test)]
+mod tests;

@@ -8,6 +8,7 @@ ghost use Rattle.world_log.specs.declared.entry.Product as made_by;
 ghost use Rattle.js_names.specs.Patterns.{nodes_of};
 ghost use Rattle.js_semantics.specs.Alone.{alone};
 ghost use Rattle.js_semantics.specs.Run.{Arrival};
+ghost use Rattle.alone_laws.specs.Sizes.{alone_cells};
 ghost use Rattle.world_machine.specs.World.{IsBegun, IsComing, IsEnded, IsIn, IsPut, IsTaken, Resumes, Takes, is_awaited};
 
 use crate::fault::ResumeFault;
@@ -18,7 +19,7 @@ use js_realm::first_state;
 use js_step::resume;
 use js_tree::Tree;
 use std::alloc::{AllocError, Global};
-use world_heap::{Heap, Limits, Pool};
+use world_heap::{Limits, Pool};
 use world_kind::WorldKind;
 use world_log::{Delivery, Product};
 
@@ -32,9 +33,9 @@ pub struct World {
 // Lets a value go. A generic function keeps the cases of its drop out of its callers' proofs.
 fn discard<T: Drop>(_value: T) {}
 
-// The heap of a state, without the rest.
-fn heap_of(state: State) -> Heap
-    ensures { result ≡ state.heap }
+// Ends the heap of a state.
+fn end_heap(state: State) -> Pool
+    ensures { result ≡ record { maps = state.heap.others; given = state.heap.given } }
 {
     let State {
         heap,
@@ -44,7 +45,7 @@ fn heap_of(state: State) -> Heap
     } = state;
     discard(frames);
     discard(control);
-    heap
+    heap.end()
 }
 
 impl World {
@@ -64,7 +65,7 @@ impl World {
     ) -> Result<(World, Pool), AllocError>
         requires given { pool.given < 2 ^ 32 - 1 }
         requires room { length pool.maps ≤ 31 }
-        ensures { IfOk result (λ r. IsBegun (alone (record { kind = kind; limits = bounds_of limits; tree = nodes_of script })) pool r.0 r.1) }
+        ensures { IfOk result (λ r. IsBegun (alone (record { kind = kind; limits = bounds_of limits; tree = nodes_of script })) (alone_cells (record { kind = kind; limits = bounds_of limits; tree = nodes_of script })) pool r.0 r.1) }
     {
         let state = first_state(alloc, limits, kind, pool)?;
         let (machine, pool) = part(state);
@@ -148,6 +149,6 @@ impl World {
     {
         let state = self.take_state(pool);
         discard(self);
-        heap_of(state).end()
+        end_heap(state)
     }
 }

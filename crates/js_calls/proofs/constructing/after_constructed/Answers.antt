@@ -4,4 +4,4 @@ use Rattle.js_calls.proofs.constructing.after_constructed.Goals as goal
 
 pub returns : goal.returns
 returns c nodes =
-    constructed_ok nodes c.args.object c.args.value c.constructed-made.result c.args.state.now c.give.new.self c.give.result (λ supply. c.constructed-made.ensures (world_of nodes supply c.args.state.now)) (c.give.ensures.some nodes)
+    constructed_ok nodes c.args.object c.args.value c.constructed-made.result c.args.state.now c.give.new.self c.give.result (λ supply. c.constructed-made.ensures (world_of nodes supply c.args.state.now)) (c.give.ensures.few nodes)

@@ -2,7 +2,8 @@ use Rattle.world_heap.specs.declared.value.Value.TheVariants.{Ref}
 use Rattle.std.proofs.Common.{[], ◌∷◌, ◌+◌, drop, ap}
 use Rattle.js_semantics.specs.Access.{make_array}
 use Rattle.js_semantics.specs.Iteration.{push_entries, push_item}
-use Rattle.js_iterate.proofs.Turns.{drop_past, entries_turn, turn_more, turn_ended, turns_done}
+use Rattle.js_machine.proofs.Lists.{drop_none}
+use Rattle.js_iterate.proofs.Turns.{entries_turn, turn_more, turn_ended, turns_done}
 use Rattle.js_iterate.proofs.filling.push_entries.Goals as goal
 
 pub returns-in-Some : goal.returns-in-Some
@@ -15,4 +16,4 @@ entries-preserved c nodes =
 
 pub returns : goal.returns
 returns c nodes =
-    turns_done nodes (λ p. push_entries c.args.array c.args.entries.now p) (λ p. push_entries c.args.array (drop c.entries.entry-index c.args.entries.now) p) c.args.state.now c.entries.state (c.entries.invariant nodes) (λ p. ap (λ l. push_entries c.args.array l p) (drop_past c.args.entries.now c.entries.entry-index c.entries-test.false))
+    turns_done nodes (λ p. push_entries c.args.array c.args.entries.now p) (λ p. push_entries c.args.array (drop c.entries.entry-index c.args.entries.now) p) c.args.state.now c.entries.state (c.entries.invariant nodes) (λ p. ap (λ l. push_entries c.args.array l p) (drop_none c.args.entries.now c.entries.entry-index c.entries-test.false))

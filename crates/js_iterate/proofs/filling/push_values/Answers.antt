@@ -1,6 +1,7 @@
 use Rattle.std.proofs.Common.{◌+◌, drop, ap}
 use Rattle.js_semantics.specs.Iteration.{push_item, push_items}
-use Rattle.js_iterate.proofs.Turns.{drop_past, items_turn, turn_more, turn_ended, turns_done}
+use Rattle.js_machine.proofs.Lists.{drop_none}
+use Rattle.js_iterate.proofs.Turns.{items_turn, turn_more, turn_ended, turns_done}
 use Rattle.js_iterate.proofs.filling.push_values.Goals as goal
 
 pub returns-in-Some : goal.returns-in-Some
@@ -13,4 +14,4 @@ values-preserved c nodes =
 
 pub returns : goal.returns
 returns c nodes =
-    turns_done nodes (λ p. push_items c.args.array c.args.values.now p) (λ p. push_items c.args.array (drop c.values.value-index c.args.values.now) p) c.args.state.now c.values.state (c.values.invariant nodes) (λ p. ap (λ l. push_items c.args.array l p) (drop_past c.args.values.now c.values.value-index c.values-test.false))
+    turns_done nodes (λ p. push_items c.args.array c.args.values.now p) (λ p. push_items c.args.array (drop c.values.value-index c.args.values.now) p) c.args.state.now c.values.state (c.values.invariant nodes) (λ p. ap (λ l. push_items c.args.array l p) (drop_none c.args.values.now c.values.value-index c.values-test.false))

@@ -1,6 +1,6 @@
 use Rattle.js_names.specs.Patterns.{nodes_of}
 use Rattle.js_machine.specs.Frames.{after_rest}
-use Rattle.js_step_access.proofs.Lookups.{name_ok}
+use Rattle.js_calls.proofs.Lookups.{name_ok}
 use Rattle.js_step_expr.specs.Left.{undeclared}
 use Rattle.js_step_access.proofs.naming.read_name.Goals as goal
 

@@ -1,6 +1,6 @@
 use Rattle.std.proofs.Common.{refl}
 use Rattle.js_step_block.proofs.Made.{made_then, made_ended}
-use Rattle.js_step_stmt.proofs.Changing.{moves_change, bind_keys}
+use Rattle.js_machine.proofs.Changing.{moves_change, bind_keys}
 use Rattle.js_machine.proofs.Doing.{moves_on}
 use Rattle.js_semantics.specs.Objects.{make_function}
 use Rattle.js_semantics.specs.Prog.{change}

@@ -1,5 +1,5 @@
 use Rattle.js_names.specs.Patterns.{nodes_of}
-use Rattle.js_step_block.proofs.Made.{moves_still}
+use Rattle.js_machine.proofs.Doing.{moves_still}
 use Rattle.js_step_block.proofs.filling.fill_item.Goals as goal
 
 pub returns-in-Some : goal.returns-in-Some

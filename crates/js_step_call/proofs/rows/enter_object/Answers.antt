@@ -1,5 +1,5 @@
 use Rattle.js_machine.proofs.Doing.{does_step_ok}
-use Rattle.js_step_call.proofs.Calling.{not_stepped}
+use Rattle.js_machine.proofs.Doing.{not_stepped}
 use Rattle.js_step_call.proofs.rows.enter_object.Goals as goal
 
 pub returns-then-not-step_down : goal.returns-then-not-step_down

@@ -1,4 +1,4 @@
-use Rattle.js_step_expr.proofs.Passing.{passed}
+use Rattle.js_machine.proofs.Doing.{passed}
 use Rattle.js_step_expr.proofs.entering.pass.Goals as goal
 
 pub returns : goal.returns

@@ -1,5 +1,5 @@
 use Rattle.js_machine.proofs.Doing.{does_step_ok}
-use Rattle.js_step_expr.proofs.Written.{not_stepped}
+use Rattle.js_machine.proofs.Doing.{not_stepped}
 use Rattle.js_step_expr.proofs.references.step_indexed.Goals as goal
 
 pub returns-then-not-step_down : goal.returns-then-not-step_down

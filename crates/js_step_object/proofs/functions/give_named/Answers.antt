@@ -2,7 +2,7 @@ use Rattle.std.proofs.Common.{refl}
 use Rattle.world_heap.specs.declared.value.Value.TheVariants.{Ref}
 use Rattle.js_semantics.specs.Environments.{bind_in}
 use Rattle.js_semantics.specs.Prog.{give}
-use Rattle.js_step_object.proofs.Changing.{bind_keys, does_change_ok}
+use Rattle.js_machine.proofs.Changing.{bind_keys, does_change_ok}
 use Rattle.js_step_object.proofs.functions.give_named.Goals as goal
 
 pub returns : goal.returns

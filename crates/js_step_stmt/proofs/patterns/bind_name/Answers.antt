@@ -1,5 +1,5 @@
 use Rattle.std.proofs.Common.{refl}
-use Rattle.js_step_stmt.proofs.Changing.{does_change_ok, fill_keys}
+use Rattle.js_machine.proofs.Changing.{does_change_ok, fill_keys}
 use Rattle.js_step_stmt.proofs.patterns.bind_name.Goals as goal
 
 pub returns : goal.returns

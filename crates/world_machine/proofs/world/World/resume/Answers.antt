@@ -1,9 +1,9 @@
-use Rattle.std.proofs.Common.{◌≡◌, Some, sym, ap, ◌∙◌, subst, slice_get, length, ◌-◌}
+use Rattle.std.proofs.Common.{◌≡◌, sym, ap, ◌∙◌, subst}
 use Rattle.js_machine.specs.declared.state.State.{State}
 use Rattle.js_machine.specs.Does.{awaits_in}
 use Rattle.js_semantics.specs.Run.{Arrival}
 use Rattle.world_machine.specs.declared.world.World.{World}
-use Rattle.world_machine.specs.Yields.{EndsBy, product_of}
+use Rattle.world_machine.specs.Yields.{EndsBy}
 use Rattle.world_machine.proofs.Awaiting.{awaited_by}
 use Rattle.world_machine.proofs.Coming.{last_behind, product_of-injective}
 use Rattle.world_machine.proofs.Resuming.{resumed, yielded}

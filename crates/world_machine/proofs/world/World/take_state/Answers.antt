@@ -1,6 +1,4 @@
-use Rattle.std.proofs.Common.{◌≡◌, Some, None, sym, ap, ◌∙◌}
-use Rattle.world_machine.specs.declared.machine.Machine.{Machine}
-use Rattle.world_machine.specs.declared.world.World.{World}
+use Rattle.std.proofs.Common.{◌≡◌, None, sym, ◌∙◌}
 use Rattle.world_machine.proofs.Pools.{machine_in, sits_at}
 use Rattle.world_machine.proofs.world.World.take_state.Goals as goal
 

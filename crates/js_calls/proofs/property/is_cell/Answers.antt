@@ -1,5 +1,0 @@
-use Rattle.world_heap.proofs.Wells.{found_stands}
-use Rattle.js_calls.proofs.property.is_cell.Goals as goal
-
-pub returns-in-Some : goal.returns-in-Some
-returns-in-Some c = λ yes. found_stands c.args.heap.now.cells c.args.loc _ c.in-Some.ensures.found
