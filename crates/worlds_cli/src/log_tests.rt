@@ -1,5 +1,5 @@
 //! Runs of applications, and their logs.
-use crate::tests::{EMPTY, Row, run};
+use crate::tests::{EMPTY, Row, holds};
 use std::test::Fail;
 
 /// Applications that are read, with an empty main script where none is given.
@@ -171,25 +171,40 @@ const WINDOWS: [Row; 3] = [
 
 #[test]
 fn applications_are_read(rt: HostRuntime) -> Result<(), Fail> {
-    run(rt, &READ)
+    for row in &READ {
+        assert!(rt; holds(rt.alloc(), row)?);
+    }
+    Ok(())
 }
 
 #[test]
 fn the_console_shows_values(rt: HostRuntime) -> Result<(), Fail> {
-    run(rt, &CONSOLE)
+    for row in &CONSOLE {
+        assert!(rt; holds(rt.alloc(), row)?);
+    }
+    Ok(())
 }
 
 #[test]
 fn expressions_are_evaluated(rt: HostRuntime) -> Result<(), Fail> {
-    run(rt, &EXPRESSIONS)
+    for row in &EXPRESSIONS {
+        assert!(rt; holds(rt.alloc(), row)?);
+    }
+    Ok(())
 }
 
 #[test]
 fn statements_are_run_within_the_limits(rt: HostRuntime) -> Result<(), Fail> {
-    run(rt, &STATEMENTS)
+    for row in &STATEMENTS {
+        assert!(rt; holds(rt.alloc(), row)?);
+    }
+    Ok(())
 }
 
 #[test]
 fn windows_print_and_throw_and_stop(rt: HostRuntime) -> Result<(), Fail> {
-    run(rt, &WINDOWS)
+    for row in &WINDOWS {
+        assert!(rt; holds(rt.alloc(), row)?);
+    }
+    Ok(())
 }

@@ -231,33 +231,37 @@ pub(crate) fn room(alloc: Global) -> Result<MemSink, Fail> {
     Ok(sink)
 }
 
-// Runs the application of each row.
-pub(crate) fn run(rt: HostRuntime, rows: &[Row]) -> Result<(), Fail> {
-    let alloc = rt.alloc();
+// Whether a run has the row's status and text.
+pub(crate) fn holds(alloc: Global, row: &Row) -> Result<bool, Fail> {
     let words = words_of(alloc, &["run", "a", "e"])?;
-    for row in rows {
-        let mut folder = folder_of(alloc, row)?;
-        let mut sink = room(alloc)?;
-        let status = worlds(alloc, words.as_slice(), &mut folder, &mut sink);
-        assert_eq!(rt; status.code(), row.status);
-        assert!(rt; sink.taken() == row.text);
+    let mut folder = folder_of(alloc, row)?;
+    let mut sink = room(alloc)?;
+    let status = worlds(alloc, words.as_slice(), &mut folder, &mut sink);
+    Ok(status.code() == row.status && sink.taken() == row.text)
+}
+
+#[test]
+fn manifests_and_files_are_refused(rt: HostRuntime) -> Result<(), Fail> {
+    for row in &MANIFESTS {
+        assert!(rt; holds(rt.alloc(), row)?);
     }
     Ok(())
 }
 
 #[test]
-fn manifests_and_files_are_refused(rt: HostRuntime) -> Result<(), Fail> {
-    run(rt, &MANIFESTS)
-}
-
-#[test]
 fn event_scripts_are_refused(rt: HostRuntime) -> Result<(), Fail> {
-    run(rt, &EVENTS)
+    for row in &EVENTS {
+        assert!(rt; holds(rt.alloc(), row)?);
+    }
+    Ok(())
 }
 
 #[test]
 fn faults_of_scripts_are_told(rt: HostRuntime) -> Result<(), Fail> {
-    run(rt, &FAULTS)
+    for row in &FAULTS {
+        assert!(rt; holds(rt.alloc(), row)?);
+    }
+    Ok(())
 }
 
 /// Words that fit no command.
