@@ -7,7 +7,7 @@ ghost use Rattle.js_semantics.specs.Prog.{make_text};
 ghost use Rattle.js_step_object.specs.Defining.{Comes, Makes};
 
 use crate::walking::Walking;
-use js_machine::{Next, State, stopped};
+use js_machine::{Next, State, discard, stopped};
 use js_operators::point_end;
 use js_semantics::StepFault;
 use js_step_object::push;
