@@ -11,7 +11,9 @@ use Rattle.js_semantics.specs.Alone.{IsRenamed, alone, alone_by}
 use Rattle.js_semantics.specs.Run.{Arrival, Setting, Trace, entries}
 use Rattle.js_semantics.proofs.Relocating.{alone_same}
 use Rattle.js_machine.specs.declared.state.State.{State}
-use Rattle.js_machine.specs.Does.{Follows, IsFresh, is_running, to_come}
+use Rattle.js_machine.specs.Does.{Follows, IsFresh, awaits_in, is_running, to_come}
+use Rattle.world_log.specs.declared.entry.Delivery.TheVariants.{Load}
+use Rattle.world_machine.proofs.Awaiting.{awaited_by}
 use Rattle.alone_laws.specs.Sizes.{IsOneSize, alone_cells, cells_at_end}
 use Rattle.alone_laws.specs.Turns.{IsYielding, Turns}
 use Rattle.alone_laws.proofs.Sizing.{one_size}
@@ -68,6 +70,7 @@ begun script kind limits old s m new fresh traces p =
       size =
           let some = some_supply (values_of new.maps m.seat.owner) p.distinct in
           size_by world new m refl ∙ sym (still nodes some.0 (state_over m (heap_in m.seat new)) waits) ∙ counted_in nodes setting s m new p traces some.0 [] some.1 some.2;
+      awaits = awaited_by world m Load refl ∙ ap (λ (x : State). awaits_in x.control x.loaded Load) p.state ∙ λ i. awaits_in (fresh.2 i) (fresh.6 i) Load;
       apart = λ w h e.
           let at = machine_in w old h in
           let same : Some at.0.seat.owner ≡ Some m.seat.owner = sym (owner_by w at.0 at.1) ∙ e ∙ own in

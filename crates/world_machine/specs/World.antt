@@ -9,6 +9,7 @@ use Rattle.world_heap.specs.Shelf.{values_of}
 use Rattle.world_heap.specs.Stored.{IsDistinct}
 use Rattle.world_heap.specs.Views.{HeapView, PoolView, SeatView, IsOwned}
 use Rattle.world_log.specs.declared.entry.Delivery.{Delivery}
+use Rattle.world_log.specs.declared.entry.Delivery.TheVariants.{Load}
 use Rattle.world_log.specs.declared.entry.Product as log
 use Rattle.world_log.specs.declared.entry.Entry.{Entry}
 use Rattle.world_log.specs.declared.entry.Entry.TheVariants as entry
@@ -137,12 +138,13 @@ Spares world old new = (w : World) → owner_of w ≢ owner_of world → IsIn w 
 abbrev pub behind : (List Arrival → List Entry) → Arrival → List log.Product → List Arrival → List Entry
 behind coming d made ds = drop (suc (length made)) (coming (d ∷ ds))
 
--- A new world in a pool: what is to come from it is this, and it will have so many cells.
+-- A new world in a pool: what is to come from it is this, it will have so many cells, and its script may be loaded.
 pub record IsBegun (coming : List Arrival → List Entry) (cells : List Arrival → ℕ) (old : PoolView) (world : World) (new : PoolView) : Type 0 where
   pub stands : IsIn world new
   pub comes : IsComing world new coming
   pub fills : IsFilling world new cells
   pub size : size_in world new ≡ cells []
+  pub awaits : is_awaited world Load ≡ true
   pub apart : (w : World) → IsIn w old → owner_of w ≢ owner_of world
   pub spares : Spares world old new
   pub given : new.given ≡ old.given + 1

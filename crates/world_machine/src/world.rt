@@ -14,7 +14,7 @@ ghost use Rattle.world_machine.specs.World.{IsBegun, IsComing, IsEnded, IsIn, Is
 use crate::fault::ResumeFault;
 use crate::machine::{Machine, part};
 use crate::yielding::{Yield, last_yield};
-use js_machine::State;
+use js_machine::{State, discard};
 use js_realm::first_state;
 use js_step::resume;
 use js_tree::Tree;
@@ -29,9 +29,6 @@ pub struct World {
     script: Tree,
     machine: Option<Machine>,
 }
-
-// Lets a value go. A generic function keeps the cases of its drop out of its callers' proofs.
-fn discard<T: Drop>(_value: T) {}
 
 // Ends the heap of a state.
 fn end_heap(state: State) -> Pool
