@@ -133,20 +133,20 @@ fn play_window<K: Sink>(
     ensures later { K.faults sink.old ≤ K.faults sink.new }
 {
     let preload = preload_of(number);
-    let stopped = match kept.load(alloc, preload, limits, &window.preload.tree, sink) {
+    let preload_stopped = match kept.load(alloc, preload, limits, &window.preload.tree, sink) {
         Ok(stopped) => stopped,
         Err(fault) => return Err(fault),
     };
-    if stopped {
+    if preload_stopped {
         kept.end_last(alloc);
         return Ok(());
     }
     let page = page_of(number);
-    let stopped = match kept.load(alloc, page, limits, &window.page.tree, sink) {
+    let page_stopped = match kept.load(alloc, page, limits, &window.page.tree, sink) {
         Ok(stopped) => stopped,
         Err(fault) => return Err(fault),
     };
-    if stopped {
+    if page_stopped {
         kept.end_last(alloc);
         kept.end_last(alloc);
         return Ok(());

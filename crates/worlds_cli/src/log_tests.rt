@@ -155,7 +155,7 @@ const WINDOWS: [Row; 3] = [
         manifest: Some(
             b"{\"windows\":[{\"preload\":\"page.js\",\"page\":\"preload.js\"},{\"preload\":\"preload.js\",\"page\":\"preload.js\"}],\"limits\":{\"steps\":1000}}",
         ),
-        preload: Some(b"var n = 2; console.info(n);"),
+        preload: Some(b"const n = 2; console.info(n);"),
         page: Some(b"while (true) {}"),
         text: b"main << load\nmain > rest 0\npreload1.1 << load\npreload1.1 > stopped fuel\npreload2.1 << load\npreload2.1 > console info \"2\"\npreload2.1 > rest 0\npage2.1 << load\npage2.1 > console info \"2\"\npage2.1 > rest 0\n",
         ..EMPTY
