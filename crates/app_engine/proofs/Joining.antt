@@ -1,5 +1,5 @@
 -- A new world takes its load.
-use Rattle.std.proofs.Common.{◌≡◌, ◌×◌, ℕ, suc, Bool, true, false, List, [], ◌∷◌, ◌++◌, length, map, drop, ap, sym, ◌∙◌, refl, subst}
+use Rattle.std.proofs.Common.{◌≡◌, ℕ, suc, Bool, true, false, List, [], ◌∷◌, ◌++◌, length, map, drop, ap, sym, ◌∙◌, refl, subst}
 use Rattle.std.specs.List.{list_any}
 use Rattle.std.proofs.lemmas.List.{append-nil, length-map}
 use Rattle.world_heap.specs.Views.{PoolView}
@@ -17,7 +17,9 @@ use Rattle.world_machine.specs.declared.yielding.Yield.{Yield}
 use Rattle.app_engine.specs.Log.{first_load, is_stop, load}
 use Rattle.app_engine.specs.Laws.{IsYielding}
 use Rattle.app_engine.specs.Live.{Joins, behind_load}
-use Rattle.app_engine.specs.Machines.{made_of, stops}
+use Rattle.app_engine.specs.Machines.{HasCause, made_of, stops}
+use Rattle.app_engine.specs.declared.player.PlayFault.{PlayFault}
+use Rattle.app_engine.specs.declared.player.PlayFault.TheVariants.{Memory, Dangling, Sink}
 use Rattle.app_engine.proofs.Yielded.{yielding}
 
 abbrev arrival : Arrival
@@ -36,6 +38,12 @@ stopped_by y (Console level text ∷ more) h = stopped_by y more h
 stopped_by y (Uncaught text ∷ more) h = stopped_by y more h
 stopped_by y (Rest jobs ∷ more) h = ap stops h.0 ∙ sym (ap (λ (xs : List ProductType). list_any is_stop (made_of xs)) h.1)
 stopped_by y (Stopped stop ∷ more) h = ap stops h.0
+
+-- a fault that isn't the sink's
+pub caused : (rose : Type 0) (fault : PlayFault) → HasCause ⊥ fault → HasCause rose fault
+caused rose Memory h = tt
+caused rose Dangling h = tt
+caused rose Sink h = absurd h
 
 module _ (setting : Setting) (cells : List Arrival → ℕ) (before between after : PoolView) (world loaded : World) (made : List ProductType) (y : Yield)
     (b : IsBegun (alone setting) cells before world between) (r : Resumes (record { fresh = true; what = Load }) world between made y loaded after) where

@@ -5,7 +5,7 @@ use Rattle.world_heap.specs.Views.{PoolView}
 use Rattle.world_log.specs.declared.entry.Entry.{Entry}
 use Rattle.world_log.specs.declared.entry.WorldName.{WorldName}
 use Rattle.js_semantics.specs.Run.{Arrival}
-use Rattle.world_machine.specs.World.{IsEnded}
+use Rattle.world_machine.specs.World.{IsEnded, IsIn}
 use Rattle.world_machine.specs.declared.world.World.{World}
 use Rattle.app_engine.specs.Live.{IsApart, Joins, Keeps, Live, Lives, Owed}
 use Rattle.app_engine.specs.declared.kept.Kept.{Kept}
@@ -82,3 +82,33 @@ last_lives pool [] o (x ∷ y ∷ xs) last h = absurd h.2
 last_lives pool (p ∷ []) o [] last h = absurd h.2
 last_lives pool (p ∷ q ∷ ps) o [] last h = absurd h.2
 last_lives pool (p ∷ ps) o (x ∷ xs) last h = last_lives pool ps o xs last h.2
+
+-- ---- what is kept
+
+pub none_keeps : (kept : Kept) → kept.live ≡ [] → kept.pool ≡ record { maps = []; given = 0 } → Keeps [] kept
+none_keeps kept e f = record {
+  live = subst (λ (ls : List LiveWorld). Live kept.pool [] ls) (sym e) tt;
+  count = ap (λ (p : PoolView). length p.maps) f ∙ sym (ap (λ (ls : List LiveWorld). length ls) e);
+}
+
+pub one_more : (kept : Kept) (pool after : PoolView) (coming : List Arrival → List Entry) (name : WorldName) (world : World) (lives : List LiveWorld) → pool ≡ kept.pool → Joins coming pool world after
+    → lives ≡ kept.live ++ record { name = name; world = world } ∷ [] → (owed : List Owed) → Keeps owed kept → Keeps (owed ++ (name, coming) ∷ []) (record { live = lives; pool = after })
+one_more kept pool after coming name world lives p b is owed k =
+    subst (λ (ls : List LiveWorld). Keeps (owed ++ (name, coming) ∷ []) (record { live = ls; pool = after })) (sym is)
+    (keeps_more kept.pool after coming name world (subst (λ (q : PoolView). Joins coming q world after) p b) kept.live owed k)
+
+pub last_stands : (kept : Kept) (owed : List Owed) (o : Owed) (lives : List LiveWorld) (last : LiveWorld) → kept.live ≡ lives ++ last ∷ [] → Keeps (owed ++ o ∷ []) kept → IsIn last.world kept.pool
+last_stands kept owed o lives last e k = (last_lives kept.pool owed o lives last (subst (λ (ls : List LiveWorld). Live kept.pool (owed ++ o ∷ []) ls) e k.live)).stands
+
+nothing_owed : (pool : PoolView) (os : List Owed) (o : Owed) → Live pool (os ++ o ∷ []) [] → ⊥
+nothing_owed pool [] o h = h
+nothing_owed pool (p ∷ ps) o h = h
+
+pub some_live : (kept : Kept) (owed : List Owed) (o : Owed) → Keeps (owed ++ o ∷ []) kept → kept.live ≡ [] → ⊥
+some_live kept owed o k e = nothing_owed kept.pool owed o (subst (λ (ls : List LiveWorld). Live kept.pool (owed ++ o ∷ []) ls) e k.live)
+
+pub one_less : (kept : Kept) (last : LiveWorld) (lives : List LiveWorld) (after : PoolView) → IsEnded last.world kept.pool after → kept.live ≡ lives ++ last ∷ []
+    → (owed : List Owed) (o : Owed) → Keeps (owed ++ o ∷ []) kept → Keeps owed (record { live = lives; pool = after })
+one_less kept last lives after e is owed o k =
+    keeps_less kept.pool after last e lives owed o
+    (record { live = subst (λ (ls : List LiveWorld). Live kept.pool (owed ++ o ∷ []) ls) is k.live; count = k.count ∙ ap (λ (ls : List LiveWorld). length ls) is })

@@ -1,8 +1,9 @@
 -- The worlds that are kept are those whose process hasn't ended in the log, with what is to come behind their part of it.
 use Rattle.std.proofs.Common.{◌≡◌, ℕ, ◌+◌, Bool, true, false, List, [], ◌∷◌, ◌++◌, length, drop, map, ap, sym, ◌∙◌, refl, arith, append_assoc, subst}
-use Rattle.std.specs.Prelude.{◌||◌, if◌then◌else◌, not, filter, cond}
+use Rattle.std.specs.Prelude.{◌||◌, if◌then◌else◌, not, filter}
 use Rattle.std.specs.List.{list_any}
-use Rattle.std.proofs.lemmas.List.{append-nil, list_any-append}
+use Rattle.std.proofs.lemmas.List.{append-nil}
+use Rattle.std.proofs.lemmas.List.Folds.{list_any-append}
 use Rattle.world_kind.specs.declared.WorldKind.TheVariants.{Main, Preload, Page}
 use Rattle.world_heap.specs.declared.limits.Limits.{Limits}
 use Rattle.world_heap.specs.Bounded.{bounds_of}
@@ -24,7 +25,7 @@ use Rattle.app_engine.proofs.Parts.{ends-own, number_self, part-other, part-own}
 use Rattle.app_engine.proofs.Played.{transcript_takes}
 use Rattle.app_engine.proofs.Windows.{page_apart, preload_apart, later_numbers, apart_numbers}
 use Rattle.app_engine.proofs.Pieces.{number_past, page_set, preload_set, transcript_is, window_found, windows_past}
-use Rattle.app_engine.proofs.Owing.{main_is, owing, page_stops, preload_stops, window_is}
+use Rattle.app_engine.proofs.Owing.{main_is, owing, page_owed, page_stops, preload_owed, preload_stops, window_is}
 use Rattle.app_engine.proofs.Silent.{Ahead, Silent, ahead_window, ended_is, part_is, part_twice, silent_later, silent_nothing, silent_other}
 
 -- ---- one world
@@ -121,7 +122,7 @@ module _ (app : Application) (number : ℕ) (window : WindowApp) (limits : Limit
       ∙ ap (λ (b : Bool). b || list_any (ends number) (page_log app number)) (ends-own number (preload_name number) first (number_self number))
 
   -- both worlds have ended
-  gone : (b c : Bool) → b ≡ preload_stops limits number window → c ≡ page_stops limits number window → (if b then [] else (if c then [] else (preload_name number, behind_load (world_setting Preload limits window.preload.tree)) ∷ (page_name number, behind_load (world_setting Page limits window.page.tree)) ∷ [])) ≡ []
+  gone : (b c : Bool) → b ≡ preload_stops limits number window → c ≡ page_stops limits number window → (if b then [] else (if c then [] else preload_owed limits number window ∷ page_owed limits number window ∷ [])) ≡ []
       → has_ended number whole ≡ true → Remains
   gone b c e f none h =
       ap (λ (vs : List WorldName). map (owed_behind app whole) vs)
@@ -177,7 +178,7 @@ module _ (app : Application) (number : ℕ) (window : WindowApp) (limits : Limit
       ap (λ (vs : List WorldName). map (owed_behind app whole) vs)
       (pair_filtered whole (preload_name number) (page_name number) ws true (lives_at whole (preload_name number) false (page_ends e false f)) (lives_at whole (page_name number) false (page_ends e false f)))
       ∙ ap (λ (o : Owed). o ∷ owed_behind app whole (page_name number) ∷ rest) (owed_is app whole (preload_name number) _ p (preload_part e))
-      ∙ ap (λ (o : Owed). (preload_name number, behind_load (world_setting Preload limits window.preload.tree)) ∷ o ∷ rest) (owed_is app whole (page_name number) _ q (page_part e))
+      ∙ ap (λ (o : Owed). preload_owed limits number window ∷ o ∷ rest) (owed_is app whole (page_name number) _ q (page_part e))
       ∙ ap (λ (os : List Owed). os ++ rest) (window_is limits number window false false (first_is false e) (second_is false f))
 
   window_remains : Remains

@@ -1,10 +1,10 @@
 //! A new world takes its load.
-ghost use Rattle.std.specs.Prelude.{◌≡◌, ◌≤◌, ◌<◌, ◌-◌, ◌^◌, ◌∷◌, length, IfOk};
+ghost use Rattle.std.specs.Prelude.{◌≡◌, ◌≤◌, ◌<◌, ◌-◌, ◌^◌, ◌∷◌, length, IfErr, IfOk};
 ghost use Rattle.std.specs.List.{list_any};
 ghost use Rattle.js_semantics.specs.Alone.{alone};
 ghost use Rattle.app_engine.specs.Log.{first_load, is_stop, load};
 ghost use Rattle.app_engine.specs.Live.{Joins, behind_load};
-ghost use Rattle.app_engine.specs.Machines.{made_of, stops, world_setting};
+ghost use Rattle.app_engine.specs.Machines.{HasCause, made_of, stops, world_setting};
 
 use crate::player::PlayFault;
 use js_tree::Tree;
@@ -45,6 +45,7 @@ pub(crate) fn load_world(
     requires room { length pool.maps ≤ 31 }
     ensures joins { IfOk result (λ r. Joins (behind_load (world_setting kind limits script)) pool r.world r.pool) }
     ensures made { IfOk result (λ r. alone (world_setting kind limits script) first_load ≡ load ∷ made_of r.made.items) }
+    ensures err { IfErr result (HasCause ⊥) }
     ensures stopped { IfOk result (λ r. r.stopped ≡ list_any is_stop (made_of r.made.items)) }
 {
     let (mut world, pool) = match World::new(alloc, kind, limits, script, pool) {
@@ -67,7 +68,9 @@ pub(crate) fn load_world(
 }
 
 // Why a world's fault ends the play.
-fn fault_of(fault: ResumeFault) -> PlayFault {
+fn fault_of(fault: ResumeFault) -> PlayFault
+    ensures { HasCause ⊥ result }
+{
     match fault {
         ResumeFault::Memory => PlayFault::Memory,
         ResumeFault::Dangling => PlayFault::Dangling,

@@ -1,11 +1,11 @@
 //! An application played.
-ghost use Rattle.std.specs.Prelude.{◌≡◌, ◌≤◌, ◌+◌, ◌×◌, ◌++◌, List, length, IfErr, OnOk};
+ghost use Rattle.std.specs.Prelude.{◌≡◌, ◌≤◌, ◌+◌, ◌++◌, List, length, IfErr, IfOk, OnOk};
 ghost use Rattle.wl_causes.specs.Causes.{Rose};
 ghost use Rattle.wl_causes.specs.Taking.{with_more, TakesFront};
 ghost use Rattle.world_log.specs.Print.{main_name, printed_log};
 ghost use Rattle.world_log.specs.declared.entry.LogItem.{LogItem};
 ghost use Rattle.app_engine.specs.Log.{Lawful, log_of, page_name, preload_name};
-ghost use Rattle.app_engine.specs.Live.{Keeps, Owed, main_owed, window_owed, windows_owed};
+ghost use Rattle.app_engine.specs.Live.{Keeps, Owed, main_owed, owed_in, window_owed, windows_owed};
 ghost use Rattle.app_engine.specs.Machines.{HasCause};
 ghost use Rattle.app_engine.specs.Applications.{application_of, main_lines, window_lines, windows_lines};
 
@@ -33,9 +33,14 @@ pub enum PlayFault {
 /// A world that stops ends its process, so a page whose preload script's world stopped isn't loaded, and a page's stop
 /// ends its preload script's world. Writes the printed log, each line as soon as its world has yielded. After a fault a
 /// front of it was taken; a fault of the sink comes only where the sink's count rose.
+///
+/// What is kept are the worlds whose process hasn't ended in the log, in the order of their loads. From each is still to
+/// come what it makes alone behind its part of the log, for every list of further deliveries; the pool has no cells but
+/// theirs.
 pub fn play<K: Sink>(alloc: Global, app: &App, sink: &mut K) -> Result<Kept, PlayFault>
     ensures ok { OnOk result (K.taken sink.new ≡ with_more (printed_log (log_of (application_of app.now))) (K.taken sink.old)) }
     ensures lawful { OnOk result ((log : List LogItem) → Lawful (application_of app.now) log → K.taken sink.new ≡ with_more (printed_log log) (K.taken sink.old)) }
+    ensures kept { IfOk result (λ kept. Keeps (owed_in (application_of app.now) (log_of (application_of app.now))) kept) }
     ensures front { TakesFront (printed_log (log_of (application_of app.now))) (K.taken sink.old) (K.taken sink.new) }
     ensures err { IfErr result (HasCause (Rose (K.faults sink.old) (K.faults sink.new))) }
     ensures later { K.faults sink.old ≤ K.faults sink.new }

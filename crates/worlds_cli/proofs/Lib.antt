@@ -3,3 +3,4 @@ pub mod Ending
 pub mod Items
 pub mod RunReading
 pub mod Stopping
+pub mod Playing
