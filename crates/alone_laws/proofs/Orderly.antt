@@ -85,7 +85,7 @@ module _ {L : Type 0} where
   unfolding make_text
   make_text_calm text k h = if_calm (nat_lt 1_048_576 (length text)) _ _ (throw_calm L TooLong) (count_units_calm (length text) _ (h (Str text)))
 
-  over_still : (p : Prog L) (k : Cont L) → IsOver p → IsOver (bind p k)
+  pub over_still : (p : Prog L) (k : Cont L) → IsOver p → IsOver (bind p k)
   over_still Over k x = tt
   over_still p k x = absurd x
 
