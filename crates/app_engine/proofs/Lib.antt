@@ -2,15 +2,15 @@ pub mod Lists
 pub mod Adding
 pub mod Parts
 pub mod Unique
-pub mod Orderly
-pub mod OrderlyAccess
-pub mod OrderlyExpressions
-pub mod OrderlyObjects
-pub mod OrderlyStatements
-pub mod OrderlyRows
 pub mod Yielded
 pub mod Played
 pub mod Windows
 pub mod Lines
+pub mod Joining
+pub mod Living
+pub mod Owing
+pub mod Silent
+pub mod Remaining
+pub mod Spelled
 pub mod Pieces
 mod Rows

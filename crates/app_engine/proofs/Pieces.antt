@@ -24,7 +24,7 @@ use Rattle.app_manifest.specs.declared.app.WindowApp.{WindowApp}
 use Rattle.app_engine.specs.Log.{Application, Lawful, WindowScripts, first_load, is_stop, load, log_of, logged, page_log, page_name, preload_name, setting_of, transcript, window_log, windows_log}
 use Rattle.app_engine.specs.Laws.{IsOnlyLog, IsYielding, Yields}
 use Rattle.app_engine.specs.Machines.{lines_of, world_setting}
-use Rattle.app_engine.specs.Applications.{application_of, window_lines, window_of, windows_lines}
+use Rattle.app_engine.specs.Applications.{application_of, main_lines, window_lines, window_of, windows_lines}
 use Rattle.app_engine.proofs.Lists.{tails}
 use Rattle.app_engine.proofs.Windows.{only_log}
 use Rattle.app_engine.proofs.Yielded.{yielding}
@@ -49,12 +49,6 @@ front_whole text before taken e = (text, [], sym (append-nil text), e)
 pub lines-load : (name : WorldName) (es products : List Entry) → es ≡ load ∷ products → lines_of name es ≡ printed (World name load) ++ lines_of name products
 unfolding lines_of printed_log
 lines-load name es products e = ap (λ (xs : List Entry). lines_of name xs) e
-
-pub yields_made : (setting : Setting) (products : List Entry) → alone setting first_load ≡ load ∷ products → Yields products
-unfolding IsYielding
-yields_made setting products e =
-    let h = yielding setting in
-    subst Yields (tails load load h.0 products (sym h.1 ∙ e)) h.2
 
 -- ---- a window's lines
 
@@ -110,20 +104,25 @@ log_twice : (xs ys : List LogItem) → printed_log (xs ++ ys) ≡ printed_log xs
 unfolding printed_log
 log_twice xs ys = flat_map-append printed xs ys
 
--- what a script's world makes, by its place among the windows
-preload_made : (app : Application) (number : ℕ) (limits : Limits) (window : WindowApp) → app.limits ≡ bounds_of limits → slice_get app.windows (number - 1) ≡ Some (window_of window)
-    → transcript app (preload_name number) ≡ alone (world_setting Preload limits window.preload.tree) first_load
-unfolding transcript setting_of
-preload_made app number limits window l e =
+-- what a script's world is made of, by its place among the windows
+pub preload_set : (app : Application) (number : ℕ) (limits : Limits) (window : WindowApp) → app.limits ≡ bounds_of limits → slice_get app.windows (number - 1) ≡ Some (window_of window)
+    → setting_of app (preload_name number) ≡ world_setting Preload limits window.preload.tree
+unfolding setting_of
+preload_set app number limits window l e =
     let script = ap (λ (found : Option WindowScripts). option_map_or (λ scripts. scripts.preload) found []) e in
-    λ i. alone (record { kind = Preload; limits = l i; tree = script i }) first_load
+    λ i. record { kind = Preload; limits = l i; tree = script i }
 
-page_made : (app : Application) (number : ℕ) (limits : Limits) (window : WindowApp) → app.limits ≡ bounds_of limits → slice_get app.windows (number - 1) ≡ Some (window_of window)
-    → transcript app (page_name number) ≡ alone (world_setting Page limits window.page.tree) first_load
-unfolding transcript setting_of
-page_made app number limits window l e =
+pub page_set : (app : Application) (number : ℕ) (limits : Limits) (window : WindowApp) → app.limits ≡ bounds_of limits → slice_get app.windows (number - 1) ≡ Some (window_of window)
+    → setting_of app (page_name number) ≡ world_setting Page limits window.page.tree
+unfolding setting_of
+page_set app number limits window l e =
     let script = ap (λ (found : Option WindowScripts). option_map_or (λ scripts. scripts.page) found []) e in
-    λ i. alone (record { kind = Page; limits = l i; tree = script i }) first_load
+    λ i. record { kind = Page; limits = l i; tree = script i }
+
+-- what a world makes of its load
+pub transcript_is : (app : Application) (w : WorldName) (setting : Setting) → setting_of app w ≡ setting → transcript app w ≡ alone setting first_load
+unfolding transcript
+transcript_is app w setting e = ap (λ (x : Setting). alone x first_load) e
 
 page_text : (b : Bool) (name : WorldName) (es : List Entry) → printed_log (if b then [] else logged name es) ≡ (if b then [] else lines_of name es)
 unfolding lines_of printed_log
@@ -134,30 +133,41 @@ window_text : (app : Application) (number : ℕ) (limits : Limits) (window : Win
     → printed_log (window_log app number) ≡ window_lines limits number window
 unfolding window_log window_lines lines_of
 window_text app number limits window l e =
-    let p = preload_made app number limits window l e in
-    let q = page_made app number limits window l e in
+    let p = transcript_is app (preload_name number) _ (preload_set app number limits window l e) in
+    let q = transcript_is app (page_name number) _ (page_set app number limits window l e) in
     log_twice (logged (preload_name number) (transcript app (preload_name number))) (page_log app number)
     ∙ ap (λ (xs : List ℕ). lines_of (preload_name number) (transcript app (preload_name number)) ++ xs) (page_text (list_any is_stop (transcript app (preload_name number))) (page_name number) (transcript app (page_name number)))
     ∙ (λ i. lines_of (preload_name number) (p i) ++ (if list_any is_stop (p i) then [] else lines_of (page_name number) (q i)))
+
+pub window_found : (app : Application) (front windows : List WindowApp) (number : ℕ) (window : WindowApp) → app.windows ≡ map window_of (front ++ window ∷ windows) → number ≡ length front + 1
+    → slice_get app.windows (number - 1) ≡ Some (window_of window)
+window_found app front windows number window e n =
+    let place : number - 1 ≡ length (map window_of front) = omega (arith, length-map front window_of) in
+    ap (λ (i : ℕ). slice_get app.windows i) place
+    ∙ ap (λ (xs : List WindowScripts). slice_get xs (length (map window_of front))) (e ∙ map-append window_of front (window ∷ windows))
+    ∙ found_behind (map window_of front) (map window_of windows) (window_of window)
+
+-- the windows in front of the next one, and those that follow
+pub windows_past : (app : Application) (front windows : List WindowApp) (window : WindowApp) → app.windows ≡ map window_of (front ++ window ∷ windows) → app.windows ≡ map window_of ((front ++ window ∷ []) ++ windows)
+windows_past app front windows window e = e ∙ ap (λ (xs : List WindowApp). map window_of xs) (sym (append_assoc front (window ∷ []) windows))
+
+pub number_past : (front : List WindowApp) (window : WindowApp) (number : ℕ) → number ≡ length front + 1 → number + 1 ≡ length (front ++ window ∷ []) + 1
+number_past front window number n = omega (arith, length-append front (window ∷ []))
 
 windows_text : (app : Application) (limits : Limits) (front windows : List WindowApp) (number : ℕ) → app.limits ≡ bounds_of limits → app.windows ≡ map window_of (front ++ windows) → number ≡ length front + 1
     → printed_log (windows_log app number (map window_of windows)) ≡ windows_lines limits number windows
 unfolding printed_log
 windows_text app limits front [] number l e n = refl
 windows_text app limits front (window ∷ windows) number l e n =
-    let place : number - 1 ≡ length (map window_of front) = omega (arith, length-map front window_of) in
-    let found : slice_get app.windows (number - 1) ≡ Some (window_of window) =
-    ap (λ (i : ℕ). slice_get app.windows i) place
-    ∙ ap (λ (xs : List WindowScripts). slice_get xs (length (map window_of front))) (e ∙ map-append window_of front (window ∷ windows))
-    ∙ found_behind (map window_of front) (map window_of windows) (window_of window) in
+    let found = window_found app front windows number window e n in
     log_twice (window_log app number) (windows_log app (number + 1) (map window_of windows))
     ∙ ap (λ (xs : List ℕ). xs ++ printed_log (windows_log app (number + 1) (map window_of windows))) (window_text app number limits window l found)
     ∙ ap (λ (xs : List ℕ). window_lines limits number window ++ xs)
-    (windows_text app limits (front ++ window ∷ []) windows (number + 1) l (e ∙ ap (λ (xs : List WindowApp). map window_of xs) (sym (append_assoc front (window ∷ []) windows))) (omega (arith, length-append front (window ∷ []))))
+    (windows_text app limits (front ++ window ∷ []) windows (number + 1) l (windows_past app front windows window e) (number_past front window number n))
 
 -- main's lines, and then those of the windows
-pub log_text : (app : App) → printed_log (log_of (application_of app)) ≡ lines_of main_name (alone (world_setting Main app.limits app.main.tree) first_load) ++ windows_lines app.limits 1 app.windows
-unfolding log_of application_of transcript setting_of lines_of
+pub log_text : (app : App) → printed_log (log_of (application_of app)) ≡ main_lines app.limits app.main.tree ++ windows_lines app.limits 1 app.windows
+unfolding log_of application_of transcript setting_of lines_of main_lines
 log_text app =
     log_twice (logged main_name (transcript (application_of app) main_name)) (windows_log (application_of app) 1 (map window_of app.windows))
     ∙ ap (λ (xs : List ℕ). lines_of main_name (transcript (application_of app) main_name) ++ xs) (windows_text (application_of app) app.limits [] app.windows 1 refl refl refl)

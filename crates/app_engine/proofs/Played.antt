@@ -12,7 +12,7 @@ use Rattle.world_log.specs.declared.entry.LogItem.TheVariants.{World}
 use Rattle.world_log.specs.declared.entry.WorldName.{WorldName}
 use Rattle.js_semantics.specs.Run.{Arrival}
 use Rattle.js_semantics.specs.Alone.{alone}
-use Rattle.app_engine.specs.Log.{Application, Due, Exactly, Follows, Names, Next, Part, Product_of, deliveries, delivery_of, has_ended, is_loaded, load, logged, next_load, process_of, same_world, setting_of, transcript, worlds_of}
+use Rattle.app_engine.specs.Log.{Application, Due, Exactly, Follows, Names, Next, Part, Product_of, deliveries, delivery_of, first_load, has_ended, is_loaded, load, logged, next_load, process_of, same_world, setting_of, transcript, worlds_of}
 use Rattle.app_engine.specs.Laws.{IsYielding, Yields}
 use Rattle.app_engine.proofs.Parts.{due-push, ended-stays, loaded-other, loaded-own, loaded-stays, or_true, part-other, part-own, same_means, same_self}
 use Rattle.app_engine.proofs.Yielded.{yielding}
@@ -81,11 +81,15 @@ loaded_is : (app : Application) (w : WorldName) → Loaded app w
 unfolding transcript IsYielding
 loaded_is app w = let h = yielding (setting_of app w) in record { products = h.0; is = h.1; yields = h.2 }
 
-own_transcript : (app : Application) (w : WorldName) → transcript app w ≡ alone (setting_of app w) (deliveries (transcript app w))
-unfolding transcript deliveries
-own_transcript app w =
+pub transcript_takes : (app : Application) (w : WorldName) → deliveries (transcript app w) ≡ first_load
+unfolding deliveries
+transcript_takes app w =
     let h = loaded_is app w in
-    ap (alone (setting_of app w)) (sym (ap deliveries h.is ∙ ap (λ (ds : List Arrival). record { fresh = true; what = Load } ∷ ds) (no_deliveries h.products h.yields)))
+    ap deliveries h.is ∙ ap (λ (ds : List Arrival). record { fresh = true; what = Load } ∷ ds) (no_deliveries h.products h.yields)
+
+own_transcript : (app : Application) (w : WorldName) → transcript app w ≡ alone (setting_of app w) (deliveries (transcript app w))
+unfolding transcript
+own_transcript app w = ap (alone (setting_of app w)) (sym (transcript_takes app w))
 
 follows_transcript : (app : Application) (w : WorldName) (log : List LogItem) → Due app log ≡ Exactly (World w load) → Follows app log (logged w (transcript app w))
 follows_transcript app w log e =

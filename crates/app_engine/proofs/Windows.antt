@@ -17,7 +17,7 @@ use Rattle.app_engine.proofs.Unique.{at_most_one}
 
 -- ---- names of windows
 
-differ : (x v : WorldName) → nat_eq x.window v.window ≡ false → same_world x v ≡ false
+pub differ : (x v : WorldName) → nat_eq x.window v.window ≡ false → same_world x v ≡ false
 unfolding same_world
 differ x v h =
     ap (λ (b : Bool). same_kind x.kind v.kind && (b && nat_eq x.generation v.generation)) h ∙ and_false (same_kind x.kind v.kind)
@@ -26,10 +26,10 @@ differ x v h =
     and_false true = refl
     and_false false = refl
 
-apart_numbers : (n m : ℕ) → m < n → nat_eq n m ≡ false
+pub apart_numbers : (n m : ℕ) → m < n → nat_eq n m ≡ false
 apart_numbers n m h = grind arith
 
-later_numbers : (n m : ℕ) → n < m → nat_eq n m ≡ false
+pub later_numbers : (n m : ℕ) → n < m → nat_eq n m ≡ false
 later_numbers n m h = grind arith
 
 -- a world stands apart from those of later windows
@@ -38,9 +38,13 @@ apart_windows v n [] h = tt
 apart_windows v n (window ∷ windows) h =
     (differ (preload_name n) v (apart_numbers n v.window h), (differ (page_name n) v (apart_numbers n v.window h), apart_windows v (n + 1) windows (omega (arith, h))))
 
-page_apart : (n : ℕ) → same_world (page_name n) (preload_name n) ≡ false
+pub page_apart : (n : ℕ) → same_world (page_name n) (preload_name n) ≡ false
 unfolding same_world
 page_apart n = refl
+
+pub preload_apart : (n : ℕ) → same_world (preload_name n) (page_name n) ≡ false
+unfolding same_world
+preload_apart n = refl
 
 -- ---- no process from a number on has ended
 

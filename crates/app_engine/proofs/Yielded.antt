@@ -13,13 +13,42 @@ use Rattle.js_semantics.specs.Alone.{alone, alone_by, trace_of, cells_of}
 use Rattle.app_engine.specs.Log.{first_load}
 use Rattle.app_engine.specs.Laws.{Yields, IsYielding}
 use Rattle.app_engine.proofs.Lists.{tail_of}
-use Rattle.app_engine.proofs.Orderly.{IsWaiting, IsOver, Orderly, bind_orderly}
-use Rattle.app_engine.proofs.OrderlyRows.{row_calm}
+use Rattle.alone_laws.proofs.Orderly.{Calm, IsOver, over_still}
+use Rattle.alone_laws.proofs.OrderlyRows.{row_calm}
 
 module _ (L : Type 0) where
-  -- a program that ends with no outcome
+  -- the program waits at once
+  abbrev IsWaiting : Prog L → Type 0
+  IsWaiting (Await m k) = Unit {0}
+  IsWaiting p = ⊥
+
+  -- A program that ends with no outcome: with a rest with no job that waits, or a stop.
   abbrev Endless : Prog L → Type 0
-  Endless p = Orderly (λ o. ⊥) p
+  Endless (End o) = ⊥
+  Endless Over = ⊥
+  Endless (Enter r k) = (o : Outcome L) → Endless (k o)
+  Endless (Make (Console level text) p) = Endless p
+  Endless (Make (Uncaught text) p) = Endless p
+  Endless (Make (Rest jobs) p) = (jobs ≡ 0) × IsWaiting p
+  Endless (Make (Stopped stop) p) = IsOver p
+  Endless (Read k) = (w : World L) → Endless (k w)
+  Endless (Write w p) = Endless p
+  Endless (Place p) = Endless p
+  Endless (Await m k) = ⊥
+
+  -- a row, and then a program that ends so
+  calm_endless : (p : Prog L) (k : Cont L) → Calm p → ((o : Outcome L) → Endless (k o)) → Endless (bind p k)
+  calm_endless (End o) k x h = h o
+  calm_endless Over k x h = absurd x
+  calm_endless (Enter r j) k x h = λ o. calm_endless (j o) k (x o) h
+  calm_endless (Make (Console level text) p) k x h = calm_endless p k x h
+  calm_endless (Make (Uncaught text) p) k x h = calm_endless p k x h
+  calm_endless (Make (Rest jobs) p) k x h = absurd x
+  calm_endless (Make (Stopped stop) p) k x h = over_still p k x
+  calm_endless (Read j) k x h = λ w. calm_endless (j w) k (x w) h
+  calm_endless (Write w p) k x h = calm_endless p k x h
+  calm_endless (Place p) k x h = calm_endless p k x h
+  calm_endless (Await m j) k x h = absurd x
 
   abbrev EnterLaw : Entering L → Type 0
   EnterLaw enter = (r : Request L) (k : Cont L) (w : World L) → ((o : Outcome L) → Endless (k o)) → Yields (entries (enter r k w))
@@ -73,16 +102,12 @@ module _ (L : Type 0) where
   spend_yields : (steps : ℕ) → EntersLaw (spend [] (receive []) steps)
   spend_yields zero n r k w x = refl
   spend_yields (suc steps) n r k w x =
-      go_yields (end_with [] steps) (spend [] (receive []) steps) (receive [] steps) (spend_yields steps) (none_waits steps) n w (bind (row r) k) (bind_orderly (λ o. ⊥) (row r) k (row_calm r) x)
+      go_yields (end_with [] steps) (spend [] (receive []) steps) (receive [] steps) (spend_yields steps) (none_waits steps) n w (bind (row r) k) (calm_endless (row r) k (row_calm r) x)
 
   -- a program that ends with no outcome leaves nothing for what follows it
   waits_still : (p : Prog L) (k : Cont L) → IsWaiting p → IsWaiting (bind p k)
   waits_still (Await m j) k x = tt
   waits_still p k x = absurd x
-
-  over_still : (p : Prog L) (k : Cont L) → IsOver p → IsOver (bind p k)
-  over_still Over k x = tt
-  over_still p k x = absurd x
 
   bind_endless : (p : Prog L) (k : Cont L) → Endless p → Endless (bind p k)
   bind_endless (End o) k x = absurd x

@@ -5,17 +5,16 @@ use Rattle.world_heap.specs.declared.limits.Limits.{Limits}
 use Rattle.world_heap.specs.Bounded.{bounds_of}
 use Rattle.js_tree.specs.Nodes.{Nodes}
 use Rattle.world_log.specs.declared.entry.Product.{Product as ProductType}
-use Rattle.world_log.specs.declared.entry.Product.TheVariants.{Console, Uncaught, Rest, Stopped}
 use Rattle.world_log.specs.declared.entry.Entry.{Entry}
 use Rattle.world_log.specs.declared.entry.Entry.TheVariants.{Product}
 use Rattle.world_log.specs.declared.entry.WorldName.{WorldName}
 use Rattle.world_log.specs.Print.{printed_log}
 use Rattle.js_semantics.specs.Run.{Setting}
+use Rattle.world_machine.specs.declared.yielding.Yield.{Yield}
+use Rattle.world_machine.specs.declared.yielding.Yield.TheVariants as ends
 use Rattle.app_engine.specs.Log.{logged}
 use Rattle.app_engine.specs.declared.player.PlayFault.{PlayFault}
 use Rattle.app_engine.specs.declared.player.PlayFault.TheVariants.{Memory, Dangling, Sink}
-use Rattle.app_engine.specs.declared.writing.Turn.{Turn}
-use Rattle.app_engine.specs.declared.writing.Turn.TheVariants as turns
 
 -- the world of a kind with these limits and this script
 abbrev pub world_setting : WorldKind → Limits → Nodes → Setting
@@ -29,17 +28,10 @@ lines_of name entries = printed_log (logged name entries)
 abbrev pub made_of : List ProductType → List Entry
 made_of products = map Product products
 
--- where a world is after a product
-abbrev pub turn_of : ProductType → Turn
-turn_of (Console level text) = turns.Runs
-turn_of (Uncaught text) = turns.Runs
-turn_of (Rest jobs) = turns.Rests
-turn_of (Stopped stop) = turns.Stops
-
-abbrev pub has_stopped : Turn → Bool
-has_stopped turns.Runs = false
-has_stopped turns.Rests = false
-has_stopped turns.Stops = true
+-- whether a world that yields so has stopped
+abbrev pub stops : Yield → Bool
+stops (ends.Rest jobs) = false
+stops (ends.Stopped stop) = true
 
 -- A fault of the sink comes only where its count rose.
 abbrev pub HasCause : Type 0 → PlayFault → Type 0

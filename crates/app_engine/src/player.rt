@@ -1,80 +1,114 @@
 //! An application played.
-ghost use Rattle.std.specs.Prelude.{◌≡◌, ◌≤◌, List, length, IfErr, IfOk, OnOk};
-ghost use Rattle.std.specs.List.{list_any};
+ghost use Rattle.std.specs.Prelude.{◌≡◌, ◌≤◌, ◌+◌, ◌++◌, List, length, IfErr, IfOk, OnOk};
 ghost use Rattle.wl_causes.specs.Causes.{Rose};
 ghost use Rattle.wl_causes.specs.Taking.{with_more, TakesFront};
 ghost use Rattle.world_log.specs.Print.{main_name, printed_log};
 ghost use Rattle.world_log.specs.declared.entry.LogItem.{LogItem};
-ghost use Rattle.js_semantics.specs.Alone.{alone};
-ghost use Rattle.app_engine.specs.Log.{Lawful, first_load, is_stop, log_of, page_name, preload_name};
-ghost use Rattle.app_engine.specs.Machines.{HasCause, lines_of, world_setting};
-ghost use Rattle.app_engine.specs.Applications.{application_of, window_lines, windows_lines};
+ghost use Rattle.app_engine.specs.Log.{Lawful, log_of, page_name, preload_name};
+ghost use Rattle.app_engine.specs.Live.{Keeps, Owed, main_owed, owed_in, window_owed, windows_owed};
+ghost use Rattle.app_engine.specs.Machines.{HasCause};
+ghost use Rattle.app_engine.specs.Applications.{application_of, main_lines, window_lines, windows_lines};
 
-use crate::machine::{Machine, MachineFault};
-use crate::writing::{write_entry, write_products};
+use crate::kept::Kept;
 use app_manifest::{App, WindowApp};
 use js_tree::Tree;
 use std::alloc::Global;
 use wl_causes::Sink;
 use world_heap::Limits;
 use world_kind::WorldKind;
-use world_log::{Delivery, Entry, WorldName};
+use world_log::WorldName;
 
 /// Why playing ends before the log does.
 #[derive(Debug, Drop, Clone, Copy, PartialEq, Eq)]
 pub enum PlayFault {
     /// Memory ran out.
     Memory,
-    /// The machine met a location that doesn't stand in its heap.
+    /// A world met a location that doesn't stand in its heap. That this never happens isn't proved.
     Dangling,
     /// The sink failed.
     Sink,
 }
 
 /// Plays an application: loads its main script, and then for each window, ascending, its preload script and its page's.
-/// A world that stops ends its process, so a page whose preload script's world stopped isn't loaded. Writes the printed
-/// log, each line as soon as it is made. After a fault a front of it was taken; a fault of the sink comes only where the
-/// sink's count rose.
-pub fn play<M: Machine, K: Sink>(
-    alloc: Global,
-    app: &App,
-    machine: &mut M,
-    sink: &mut K,
-) -> Result<(), PlayFault>
+/// A world that stops ends its process, so a page whose preload script's world stopped isn't loaded, and a page's stop
+/// ends its preload script's world. Writes the printed log, each line as soon as its world has yielded. After a fault a
+/// front of it was taken; a fault of the sink comes only where the sink's count rose.
+///
+/// What is kept are the worlds whose process hasn't ended in the log, in the order of their loads. From each is still to
+/// come what it makes alone behind its part of the log, for every list of further deliveries; the pool has no cells but
+/// theirs.
+pub fn play<K: Sink>(alloc: Global, app: &App, sink: &mut K) -> Result<Kept, PlayFault>
     ensures ok { OnOk result (K.taken sink.new ≡ with_more (printed_log (log_of (application_of app.now))) (K.taken sink.old)) }
     ensures lawful { OnOk result ((log : List LogItem) → Lawful (application_of app.now) log → K.taken sink.new ≡ with_more (printed_log log) (K.taken sink.old)) }
+    ensures kept { IfOk result (λ kept. Keeps (owed_in (application_of app.now) (log_of (application_of app.now))) kept) }
     ensures front { TakesFront (printed_log (log_of (application_of app.now))) (K.taken sink.old) (K.taken sink.new) }
     ensures err { IfErr result (HasCause (Rose (K.faults sink.old) (K.faults sink.new))) }
     ensures later { K.faults sink.old ≤ K.faults sink.new }
 {
-    match play_world(alloc, machine, main_of(), app.limits, &app.main.tree, sink) {
-        Ok(_) => {}
-        Err(fault) => return Err(fault),
-    }
-    match play_windows(alloc, machine, app.limits, app.windows.as_slice(), sink) {
+    let mut kept = Kept::new(alloc);
+    match play_main(alloc, app.limits, &app.main.tree, &mut kept, sink) {
         Ok(()) => {}
         Err(fault) => return Err(fault),
+    }
+    match play_windows(alloc, app.limits, app.windows.as_slice(), &mut kept, sink) {
+        Ok(()) => {}
+        Err(fault) => return Err(fault),
+    }
+    Ok(kept)
+}
+
+// The main script. Where its world stops it ends.
+fn play_main<K: Sink>(
+    alloc: Global,
+    limits: Limits,
+    script: &Tree,
+    kept: &mut Kept,
+    sink: &mut K,
+) -> Result<(), PlayFault>
+    requires given { kept.old.pool.given ≤ 16 }
+    requires room { length kept.old.pool.maps ≤ 16 }
+    requires keeps { (owed : List Owed) × Keeps owed kept.old }
+    ensures ok { OnOk result (K.taken sink.new ≡ with_more (main_lines limits script.now) (K.taken sink.old)) }
+    ensures keeps { OnOk result ((owed : List Owed) → Keeps owed kept.old → Keeps (owed ++ main_owed limits script.now) kept.new) }
+    ensures given { OnOk result (kept.new.pool.given ≤ kept.old.pool.given + 1) }
+    ensures room { OnOk result (length kept.new.pool.maps ≤ length kept.old.pool.maps + 1) }
+    ensures front { TakesFront (main_lines limits script.now) (K.taken sink.old) (K.taken sink.new) }
+    ensures err { IfErr result (HasCause (Rose (K.faults sink.old) (K.faults sink.new))) }
+    ensures later { K.faults sink.old ≤ K.faults sink.new }
+{
+    let main = main_of();
+    let stopped = match kept.load(alloc, main, limits, script, sink) {
+        Ok(stopped) => stopped,
+        Err(fault) => return Err(fault),
+    };
+    if stopped {
+        kept.end_last(alloc);
+        return Ok(());
     }
     Ok(())
 }
 
 // The windows, ascending.
-fn play_windows<M: Machine, K: Sink>(
+fn play_windows<K: Sink>(
     alloc: Global,
-    machine: &mut M,
     limits: Limits,
     windows: &[WindowApp],
+    kept: &mut Kept,
     sink: &mut K,
 ) -> Result<(), PlayFault>
     requires few { length windows.now ≤ 8 }
+    requires given { kept.old.pool.given ≤ 1 }
+    requires room { length kept.old.pool.maps ≤ 1 }
+    requires keeps { (owed : List Owed) × Keeps owed kept.old }
     ensures ok { OnOk result (K.taken sink.new ≡ with_more (windows_lines limits 1 windows.now) (K.taken sink.old)) }
+    ensures keeps { OnOk result ((owed : List Owed) → Keeps owed kept.old → Keeps (owed ++ windows_owed limits 1 windows.now) kept.new) }
     ensures front { TakesFront (windows_lines limits 1 windows.now) (K.taken sink.old) (K.taken sink.new) }
     ensures err { IfErr result (HasCause (Rose (K.faults sink.old) (K.faults sink.new))) }
     ensures later { K.faults sink.old ≤ K.faults sink.new }
 {
     let mut number = 1;
     'windows: for window in windows {
-        match play_window(alloc, machine, number, limits, window, sink) {
+        match play_window(alloc, number, limits, window, kept, sink) {
             Ok(()) => {}
             Err(fault) => return Err(fault),
         }
@@ -84,31 +118,43 @@ fn play_windows<M: Machine, K: Sink>(
 }
 
 // A window's preload script, and then its page's unless the preload script's world has stopped.
-fn play_window<M: Machine, K: Sink>(
+fn play_window<K: Sink>(
     alloc: Global,
-    machine: &mut M,
     number: u32,
     limits: Limits,
     window: &WindowApp,
+    kept: &mut Kept,
     sink: &mut K,
 ) -> Result<(), PlayFault>
+    requires given { kept.old.pool.given ≤ 16 }
+    requires room { length kept.old.pool.maps ≤ 16 }
+    requires keeps { (owed : List Owed) × Keeps owed kept.old }
     ensures ok { OnOk result (K.taken sink.new ≡ with_more (window_lines limits number window.now) (K.taken sink.old)) }
+    ensures keeps { OnOk result ((owed : List Owed) → Keeps owed kept.old → Keeps (owed ++ window_owed limits number window.now) kept.new) }
+    ensures given { OnOk result (kept.new.pool.given ≤ kept.old.pool.given + 2) }
+    ensures room { OnOk result (length kept.new.pool.maps ≤ length kept.old.pool.maps + 2) }
     ensures front { TakesFront (window_lines limits number window.now) (K.taken sink.old) (K.taken sink.new) }
     ensures err { IfErr result (HasCause (Rose (K.faults sink.old) (K.faults sink.new))) }
     ensures later { K.faults sink.old ≤ K.faults sink.new }
 {
     let preload = preload_of(number);
-    let stopped = match play_world(alloc, machine, preload, limits, &window.preload.tree, sink) {
+    let preload_stopped = match kept.load(alloc, preload, limits, &window.preload.tree, sink) {
         Ok(stopped) => stopped,
         Err(fault) => return Err(fault),
     };
-    if stopped {
+    if preload_stopped {
+        kept.end_last(alloc);
         return Ok(());
     }
     let page = page_of(number);
-    match play_world(alloc, machine, page, limits, &window.page.tree, sink) {
-        Ok(_) => {}
+    let page_stopped = match kept.load(alloc, page, limits, &window.page.tree, sink) {
+        Ok(stopped) => stopped,
         Err(fault) => return Err(fault),
+    };
+    if page_stopped {
+        kept.end_last(alloc);
+        kept.end_last(alloc);
+        return Ok(());
     }
     Ok(())
 }
@@ -140,39 +186,4 @@ fn page_of(number: u32) -> WorldName
         window: number,
         generation: 1,
     }
-}
-
-// A new world takes its load. Says whether it has stopped.
-fn play_world<M: Machine, K: Sink>(
-    alloc: Global,
-    machine: &mut M,
-    name: WorldName,
-    limits: Limits,
-    script: &Tree,
-    sink: &mut K,
-) -> Result<bool, PlayFault>
-    ensures ok { OnOk result (K.taken sink.new ≡ with_more (lines_of name (alone (world_setting name.kind limits script.now) first_load)) (K.taken sink.old)) }
-    ensures stopped { IfOk result (λ stopped. stopped ≡ list_any is_stop (alone (world_setting name.kind limits script.now) first_load)) }
-    ensures front { TakesFront (lines_of name (alone (world_setting name.kind limits script.now) first_load)) (K.taken sink.old) (K.taken sink.new) }
-    ensures err { IfErr result (HasCause (Rose (K.faults sink.old) (K.faults sink.new))) }
-    ensures later { K.faults sink.old ≤ K.faults sink.new }
-{
-    match machine.load(alloc, name.kind, limits, script) {
-        Ok(()) => {}
-        Err(MachineFault::Memory) => return Err(PlayFault::Memory),
-        Err(MachineFault::Dangling) => return Err(PlayFault::Dangling),
-    }
-    let load = Entry::Delivery {
-        fresh: true,
-        what: Delivery::Load,
-    };
-    match write_entry(alloc, name, load, sink) {
-        Ok(()) => {}
-        Err(fault) => return Err(fault),
-    }
-    let stopped = match write_products(alloc, machine, name, sink) {
-        Ok(stopped) => stopped,
-        Err(fault) => return Err(fault),
-    };
-    Ok(stopped)
 }

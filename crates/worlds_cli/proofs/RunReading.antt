@@ -11,15 +11,15 @@ use Rattle.app_manifest.proofs.Stopping.{refusal-behind, refusal-front, reached-
 use Rattle.event_script.specs.Script.{script}
 use Rattle.wl_causes.specs.Causes.{Rose}
 use Rattle.wl_causes.specs.Reading.{Files}
-use Rattle.js_meaning.specs.Form.{form_of}
-use Rattle.js_meaning.specs.Log.{log_of}
-use Rattle.js_meaning.specs.declared.form.Literal.{Literal}
+use Rattle.app_engine.specs.Log.{log_of}
+use Rattle.app_engine.specs.Scripts.{application_spelled}
 use Rattle.world_log.specs.Print.{printed_log}
-use Rattle.worlds_cli.specs.Answer.{answer_to, checks, output, required, events_refusal, line_refusal, has_lines, is_eventful, unplayed, as_status, fault_status}
+use Rattle.worlds_cli.specs.Answer.{answer_to, checks, output, required, events_refusal, line_refusal, has_lines, is_eventful, unplayed_if, as_status, fault_status}
 use Rattle.worlds_cli.specs.Clauses.{Stops, StopsAt}
 use Rattle.worlds_cli.specs.Command.{Command, run}
-use Rattle.worlds_cli.specs.Reading.{IsWrongLine, IsUnplayed}
+use Rattle.worlds_cli.specs.Reading.{IsWrongLine, IsOrMemory}
 use Rattle.worlds_cli.specs.declared.status.Status.{Status}
+use Rattle.worlds_cli.specs.declared.status.ScriptKind.TheVariants.{NotBuilt}
 use Rattle.worlds_cli.specs.declared.status.Status.TheVariants.{Done, Memory, Words, FolderFault, Absent, Json, Shape, Script, Line, SinkFault, Wire, TooLong}
 use Rattle.worlds_cli.proofs.Stopping.{Checks, answer-refused, stops_at}
 
@@ -81,7 +81,7 @@ app-read f app texts h = by (first_refusal (app_checks f app)) refl
 
 module _ (files : Option Files) (app events : List ℕ) where
   abbrev behind : Files → Checks
-  behind f = (events, events_refusal f events) ∷ unplayed app events (app_texts f app) (is_eventful f events)
+  behind f = (events, events_refusal f events) ∷ unplayed_if (is_eventful f events) events ∷ []
 
   refused : (fault : AppFault) → IfSome files (λ f. first_refusal (app_checks f app) ≡ Some fault)
       → IfSome files (λ f. answer_to f (run app events) ≡ Err (fault_status fault))
@@ -118,53 +118,40 @@ module _ (files : Option Files) (app events : List ℕ) where
     unfolding checks
     stops_events A status stops =
         stops_at (run app events) (λ f. map as_status (app_checks f app))
-        (λ f. unplayed app events (app_texts f app) (is_eventful f events)) events (λ f. events_refusal f events)
+        (λ f. unplayed_if (is_eventful f events) events ∷ []) events (λ f. events_refusal f events)
         (λ f. refl) files A status passed (inr refl) stops
 
     module _ (eventful : Bool) (heard : IfSome files (λ f. (events_refusal f events ≡ None) × (is_eventful f events ≡ eventful))) where
-      first : IfSome files (λ f. first_refusal (checks f (run app events)) ≡ first_refusal (unplayed app events texts eventful))
+      first : IfSome files (λ f. first_refusal (checks f (run app events)) ≡ first_refusal (unplayed_if eventful events ∷ []))
       unfolding checks
       first = both files _ _ _ step read heard
         where
           step : (f : Files) → app_of f app ≡ Ok texts → (events_refusal f events ≡ None) × (is_eventful f events ≡ eventful)
-              → first_refusal (map as_status (app_checks f app) ++ behind f) ≡ first_refusal (unplayed app events texts eventful)
+              → first_refusal (map as_status (app_checks f app) ++ behind f) ≡ first_refusal (unplayed_if eventful events ∷ [])
           step f e (none, is) =
               refusal-behind (map as_status (app_checks f app)) (behind f) (mapped-none (app_checks f app) (app-read f app texts e).0)
-              ∙ ap (λ r. first_refusal ((events, r) ∷ unplayed app events (app_texts f app) (is_eventful f events))) none
-              ∙ ap (λ t. first_refusal (unplayed app events t (is_eventful f events))) (app-read f app texts e).1
-              ∙ ap (λ b. first_refusal (unplayed app events texts b)) is
+              ∙ ap (λ r. first_refusal ((events, r) ∷ unplayed_if (is_eventful f events) events ∷ [])) none
+              ∙ ap (λ b. first_refusal (unplayed_if b events ∷ [])) is
 
-      -- Something isn't played yet.
-      pub stops_unplayed : (A : Type 0) (status : Status) → IsUnplayed (first_refusal (unplayed app events texts eventful)) status
-          → Stops files (run app events) A status
-      stops_unplayed A Memory h = tt
-      stops_unplayed A (Script file place kind) h =
-          over files _ _ (λ f e. answer-refused f (run app events) (Script file place kind) (e ∙ h)) first
-      stops_unplayed A (FolderFault file) h = absurd h
-      stops_unplayed A (Absent file) h = absurd h
-      stops_unplayed A (Json file) h = absurd h
-      stops_unplayed A (Shape file key) h = absurd h
-      stops_unplayed A (Wire place kind) h = absurd h
-      stops_unplayed A (Line file number) h = absurd h
-      stops_unplayed A (TooLong file limit) h = absurd h
-      stops_unplayed A Done h = absurd h
-      stops_unplayed A Words h = absurd h
-      stops_unplayed A SinkFault h = absurd h
+    -- A line has an effect, which isn't played yet.
+    pub stops_unplayed : (heard : IfSome files (λ f. (events_refusal f events ≡ None) × (is_eventful f events ≡ true))) (A : Type 0) (status : Status)
+        → IsOrMemory status (Script events 0 NotBuilt) → Stops files (run app events) A status
+    stops_unplayed heard A status (inl e) =
+        subst (λ s. Stops files (run app events) A s) (sym e)
+        (over files _ _ (λ f h. answer-refused f (run app events) (Script events 0 NotBuilt) h) (first true heard))
+    stops_unplayed heard A status (inr e) = subst (λ s. Stops files (run app events) A s) (sym e) tt
 
-      -- All is played.
-      pub accepts : (statements : List (List Literal)) → first_refusal (unplayed app events texts eventful) ≡ None
-          → form_of texts.main ≡ Some statements
-          → IfSome files (λ f. answer_to f (run app events) ≡ Ok (printed_log (log_of statements)))
-      unfolding answer_to output
-      accepts statements none form = both files _ _ _ step read first
-        where
-          step : (f : Files) → app_of f app ≡ Ok texts
-              → first_refusal (checks f (run app events)) ≡ first_refusal (unplayed app events texts eventful)
-              → answer_to f (run app events) ≡ Ok (printed_log (log_of statements))
-          step f e same =
-              ap (λ r. option_map_or (λ s. Err s) r (Ok (output f (run app events)))) (same ∙ none)
-              ∙ ap (λ t. Ok (option_map_or (λ statements. printed_log (log_of statements)) (form_of t.main) [])) (app-read f app texts e).1
-              ∙ ap (λ o. Ok (option_map_or (λ statements. printed_log (log_of statements)) o [])) form
+    -- All is played.
+    pub accepts : (heard : IfSome files (λ f. (events_refusal f events ≡ None) × (is_eventful f events ≡ false)))
+        → IfSome files (λ f. answer_to f (run app events) ≡ Ok (printed_log (log_of (application_spelled texts))))
+    unfolding answer_to output
+    accepts heard = both files _ _ _ step read (first false heard)
+      where
+        step : (f : Files) → app_of f app ≡ Ok texts → first_refusal (checks f (run app events)) ≡ None
+            → answer_to f (run app events) ≡ Ok (printed_log (log_of (application_spelled texts)))
+        step f e none =
+            ap (λ r. option_map_or (λ s. Err s) r (Ok (output f (run app events)))) none
+            ∙ ap (λ t. Ok (printed_log (log_of (application_spelled t)))) (app-read f app texts e).1
 
 -- ---- the event script
 

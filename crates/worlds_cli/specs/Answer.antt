@@ -1,14 +1,14 @@
 -- The answer of a command over the files of a folder: its first refusal, or else its text.
-use Rattle.std.specs.Prelude.{◌≡◌, ◌⊎◌, ℕ, ◌<◌, ◌-◌, List, [], ◌∷◌, ◌++◌, length, Bool, true, false, ◌==◌, ◌&&◌, not, Option, Some, None, Result, Ok, Err, codes, map, nat_lt, is_some, option_map, if◌then◌else◌}
+use Rattle.std.specs.Prelude.{◌≡◌, ◌⊎◌, ℕ, ◌<◌, ◌-◌, List, [], ◌∷◌, ◌++◌, length, Bool, true, false, Option, Some, None, Result, Ok, Err, codes, map, nat_lt, option_map, if◌then◌else◌}
 use Rattle.std.specs.Option.{option_map_or}
 use Rattle.app_manifest.specs.App.{Check, Texts, app_checks, app_texts, file_of, first_refusal, manifest_name}
 use Rattle.app_manifest.specs.Clauses.{IsNamed}
 use Rattle.app_manifest.specs.declared.app.AppFault.{AppFault}
 use Rattle.app_manifest.specs.declared.app.AppFault.TheVariants as refusal
+use Rattle.app_engine.specs.Log.{log_of}
+use Rattle.app_engine.specs.Scripts.{application_spelled}
 use Rattle.event_script.specs.Script.{script}
 use Rattle.event_script.specs.declared.line.Line.{Line as EventLine}
-use Rattle.js_meaning.specs.Form.{form_of}
-use Rattle.js_meaning.specs.Log.{log_of}
 use Rattle.hex.specs.Hex.{encode_upper}
 use Rattle.parcel.specs.declared.parcel.Parcel.{Parcel}
 use Rattle.parcel.specs.Text.{text_of as parcel_text}
@@ -19,7 +19,6 @@ use Rattle.wire_input.specs.Input.{parcel_of}
 use Rattle.wire_input.specs.declared.InputFault.{InputFault}
 use Rattle.wire_input.specs.declared.InputFault.TheVariants as input
 use Rattle.wl_causes.specs.Reading.{Files}
-use Rattle.world_heap.specs.Views.{Bounds}
 use Rattle.world_log.specs.Print.{printed_log}
 use Rattle.worlds_cli.specs.Command.{Command, run, convert, command_of}
 use Rattle.worlds_cli.specs.Text.{told}
@@ -78,15 +77,7 @@ fault_status refusal.Memory = Memory
 abbrev pub as_status : Check AppFault → Check Status
 as_status check = (check.0, option_map fault_status check.1)
 
--- ---- what isn't played yet
-
-abbrev pub are_default : Bounds → Bool
-are_default limits = (limits.steps == 1_000_000) && ((limits.cells == 250_000) && ((limits.places == 1_000_000)
-    && ((limits.units == 16_777_216) && (limits.depth == 1_000))))
-
--- Windows and limits aren't played.
-unfoldable pub is_plain : Texts → Bool
-is_plain texts = are_default texts.limits && (length texts.windows == 0)
+-- ---- what isn't played yet: the lines of an event script
 
 -- a file that can't be played yet where the test says so
 abbrev pub unplayed_if : Bool → List ℕ → Check Status
@@ -98,12 +89,6 @@ abbrev pub has_lines : Result (List EventLine) ℕ → Bool
 has_lines (Ok []) = false
 has_lines (Ok (line ∷ lines)) = true
 has_lines (Err number) = false
-
--- The files that can't be played yet: the manifest with windows or other limits than the defaults, a main script that
--- isn't of the first form, an event script with a line that has an effect.
-unfoldable pub unplayed : List ℕ → List ℕ → Texts → Bool → List (Check Status)
-unplayed app events texts eventful = unplayed_if (not (is_plain texts)) (file_of app manifest_name)
-    ∷ unplayed_if (not (is_some (form_of texts.main))) (file_of app texts.name) ∷ unplayed_if eventful events ∷ []
 
 -- whether the event script has a line with an effect
 unfoldable pub is_eventful : Files → List ℕ → Bool
@@ -119,10 +104,10 @@ unfoldable pub conversion_refusal : Conversion → Files → List ℕ → Option
 conversion_refusal conversion files file = required file 4_194_304 (λ bytes. refusal_of (converted conversion file bytes)) (files file)
 
 -- The files that a command reads, in the order of refusals, each with its refusal: those of the application, the event
--- script, and then once more those that can't be played yet.
+-- script, and then once more the event script where it has a line with an effect, which can't be played yet.
 unfoldable pub checks : Files → Command → List (Check Status)
 checks files (run app events) = map as_status (app_checks files app) ++ (events, events_refusal files events)
-    ∷ unplayed app events (app_texts files app) (is_eventful files events)
+    ∷ unplayed_if (is_eventful files events) events ∷ []
 checks files (convert conversion file) = (file, conversion_refusal conversion files file) ∷ []
 
 -- A file that a command may read: `run` those of the application's folder, and the event script.
@@ -135,9 +120,9 @@ abbrev pub text_or_none : Result (List ℕ) Status → List ℕ
 text_or_none (Ok text) = text
 text_or_none (Err status) = []
 
--- What the command prints where nothing is refused: of `run` the printed log of the main script, of a conversion its text.
+-- What the command prints where nothing is refused: of `run` the printed log of the application, of a conversion its text.
 unfoldable pub output : Files → Command → List ℕ
-output files (run app events) = option_map_or (λ statements. printed_log (log_of statements)) (form_of (app_texts files app).main) []
+output files (run app events) = printed_log (log_of (application_spelled (app_texts files app)))
 output files (convert conversion file) = option_map_or (λ bytes. text_or_none (converted conversion file bytes)) (files file) []
 
 -- the answer of a command

@@ -42,18 +42,3 @@ IsWrongLine read name (Wire place kind) = ⊥
 IsWrongLine read name (Script file place kind) = ⊥
 IsWrongLine read name SinkFault = ⊥
 IsWrongLine read name (TooLong file limit) = ⊥
-
--- A file can't be played yet, the first such, or memory ran out.
-abbrev pub IsUnplayed : Option Status → Status → Type 0
-IsUnplayed told (Script file place kind) = told ≡ Some (Script file place kind)
-IsUnplayed told Memory = Unit {0}
-IsUnplayed told (Line file number) = ⊥
-IsUnplayed told Done = ⊥
-IsUnplayed told Words = ⊥
-IsUnplayed told (FolderFault file) = ⊥
-IsUnplayed told (Absent file) = ⊥
-IsUnplayed told (Json file) = ⊥
-IsUnplayed told (Shape file key) = ⊥
-IsUnplayed told (Wire place kind) = ⊥
-IsUnplayed told SinkFault = ⊥
-IsUnplayed told (TooLong file limit) = ⊥

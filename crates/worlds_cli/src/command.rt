@@ -109,11 +109,11 @@ fn play<F: Folder, K: Sink>(
         → Ends (F.files folder.old) words (Rose (F.faults folder.old) (F.faults folder.new))
         (Rose (K.faults sink.old) (K.faults sink.new)) result (K.taken sink.old) (K.taken sink.new) }
 {
-    let statements = match read_run(alloc, folder, app, script) {
-        Ok(statements) => statements,
+    let read = match read_run(alloc, folder, app, script) {
+        Ok(read) => read,
         Err(refusal) => return refuse(alloc, refusal, sink),
     };
-    match write_log(alloc, statements.as_slice(), sink) {
+    match write_log(alloc, &read, sink) {
         Ok(()) => {}
         Err(status) => return status,
     }

@@ -2,7 +2,11 @@
 #![tactic(auto)]
 
 mod command;
+#[cfg(test)]
+mod conversion_tests;
 mod converting;
+#[cfg(test)]
+mod log_tests;
 mod reading;
 mod status;
 #[cfg(test)]

@@ -1,17 +1,15 @@
 //! The files of a command: read, or refused.
 ghost use Rattle.std.specs.Prelude.{◌≡◌, ◌≤◌, ◌<◌, List, ℕ, Option, Some, None, Ok, Err, length, option_map, IfOk, IfErr, IfSome, OnOk, string_bytes};
-ghost use Rattle.app_manifest.specs.App.{file_of, first_refusal};
+ghost use Rattle.app_engine.specs.Log.{log_of};
+ghost use Rattle.app_engine.specs.Scripts.{application_spelled};
 ghost use Rattle.app_manifest.specs.Clauses.{texts_of};
 ghost use Rattle.event_script.specs.Script.{script};
 ghost use Rattle.wl_causes.specs.Causes.{Rose};
-ghost use Rattle.world_heap.specs.Bounded.{bounds_of};
-ghost use Rattle.js_meaning.specs.Form.{form_of};
-ghost use Rattle.js_meaning.specs.Log.{log_of};
 ghost use Rattle.world_log.specs.Print.{printed_log};
-ghost use Rattle.worlds_cli.specs.Answer.{answer_to, required, events_refusal, line_refusal, has_lines, is_eventful, unplayed, is_plain, are_default, fault_status};
+ghost use Rattle.worlds_cli.specs.Answer.{answer_to, required, events_refusal, line_refusal, has_lines, is_eventful, fault_status};
 ghost use Rattle.worlds_cli.specs.Clauses.{Stops, StopsAt};
 ghost use Rattle.worlds_cli.specs.Command.{run};
-ghost use Rattle.worlds_cli.specs.Reading.{StopsReading, IsOrMemory, IsWrongLine, IsUnplayed};
+ghost use Rattle.worlds_cli.specs.Reading.{StopsReading, IsOrMemory, IsWrongLine};
 ghost use Rattle.worlds_cli.specs.declared.status.Status.{Status};
 ghost use Rattle.worlds_cli.specs.declared.status.Status.TheVariants.{Absent, Script};
 ghost use Rattle.worlds_cli.specs.declared.status.ScriptKind.TheVariants.{NotBuilt};
@@ -19,26 +17,24 @@ ghost use Rattle.worlds_cli.specs.declared.status.ScriptKind.TheVariants.{NotBui
 use crate::status::{ScriptKind, Status};
 use app_manifest::{App, AppFault, read_app};
 use event_script::{LineFault, read_script};
-use js_meaning::{FormFault, Literal, read_form};
 use sqlite_items::Items;
-use std::alloc::{AllocError, Global};
+use std::alloc::Global;
 use wl_causes::{Folder, FolderFault};
-use world_heap::Limits;
 
 /// The greatest number of bytes of an event script.
 const FILE_LIMIT: u32 = 1_048_576;
 
-/// The statements of the main script that `run` unplayed, or the first refusal of its files: those of the application in
-/// their order, the event script, and then what can't be played yet.
+/// The application that `run` plays, or the first refusal of its files: those of the application in their order, the event
+/// script, and then the event script where it has a line with an effect.
 pub fn read_run<F: Folder>(
     alloc: Global,
     folder: &mut F,
     app: &str,
     script: &str,
-) -> Result<Items<Items<Literal>>, Status>
+) -> Result<App, Status>
     ensures later { F.faults folder.old ≤ F.faults folder.new }
-    ensures ok { IfOk result (λ statements. IfSome (F.files folder.old)
-        (λ files. answer_to files (run app.now script.now) ≡ Ok (printed_log (log_of statements)))) }
+    ensures ok { IfOk result (λ read. IfSome (F.files folder.old)
+        (λ files. answer_to files (run app.now script.now) ≡ Ok (printed_log (log_of (application_spelled (texts_of read)))))) }
     ensures err { IfErr result (Stops (F.files folder.old) (run app.now script.now) (Rose (F.faults folder.old) (F.faults folder.new))) }
 {
     let read = match read_app(alloc, folder, app) {
@@ -49,10 +45,10 @@ pub fn read_run<F: Folder>(
         Ok(eventful) => eventful,
         Err(status) => return Err(status),
     };
-    match played(alloc, app, &read, script, eventful) {
-        Ok(statements) => Ok(statements),
-        Err(status) => Err(status),
+    if eventful {
+        return Err(not_built(alloc, script));
     }
+    Ok(read)
 }
 
 // The refusal of an application, as a status.
@@ -119,52 +115,6 @@ fn wrong_line(alloc: Global, name: &str, number: u32) -> Status
     }
 }
 
-// The statements of the main script, where all is of what can be played.
-#[tactic(auto, unfolding(crate::specs::Answer::unplayed))]
-fn played(
-    alloc: Global,
-    app: &str,
-    read: &App,
-    script: &str,
-    eventful: bool,
-) -> Result<Items<Items<Literal>>, Status>
-    ensures ok { IfOk result (λ statements. (first_refusal (unplayed app.now script.now (texts_of read.now) eventful) ≡ None)
-        × (form_of read.now.main.bytes ≡ Some statements)) }
-    ensures err { IfErr result (IsUnplayed (first_refusal (unplayed app.now script.now (texts_of read.now) eventful))) }
-{
-    if !is_plain(read) {
-        return Err(not_built_in(alloc, app, "worlds.json"));
-    }
-    let statements = match read_form(alloc, read.main.bytes.as_slice()) {
-        Ok(statements) => statements,
-        Err(FormFault::NotBuilt) => return Err(not_built_in(alloc, app, read.name.as_str())),
-        Err(FormFault::Memory) => return Err(Status::Memory),
-    };
-    if eventful {
-        return Err(not_built(alloc, script));
-    }
-    Ok(statements)
-}
-
-// Whether an application has no windows and the default limits.
-#[tactic(auto, unfolding(crate::specs::Answer::is_plain))]
-fn is_plain(read: &App) -> bool
-    ensures { result ≡ is_plain (texts_of read.now) }
-{
-    are_default(&read.limits) && read.windows.len() == 0
-}
-
-// Whether limits are the defaults.
-fn are_default(limits: &Limits) -> bool
-    ensures { result ≡ are_default (bounds_of limits.now) }
-{
-    limits.steps == 1_000_000
-        && limits.cells == 250_000
-        && limits.places == 1_000_000
-        && limits.units == 16_777_216
-        && limits.depth == 1_000
-}
-
 /// A file that must be there, of at most `limit` bytes, whatever is asked of what it holds.
 #[tactic(auto, unfolding(crate::specs::Answer::required))]
 pub fn read_required<F: Folder>(
@@ -213,24 +163,6 @@ fn read_named<F: Folder>(
         }
         Err(FolderFault::Memory) => Err(Status::Memory),
     }
-}
-
-// A file of an application that can't be played yet.
-fn not_built_in(alloc: Global, app: &str, name: &str) -> Status
-    ensures { IsOrMemory result (Script (file_of app.now name.now) 0 NotBuilt) }
-{
-    match file_in(alloc, app, name) {
-        Ok(file) => not_built(alloc, file.as_str()),
-        Err(_) => Status::Memory,
-    }
-}
-
-// The name of a file of an application.
-fn file_in(alloc: Global, app: &str, name: &str) -> Result<String, AllocError>
-    ensures { IfOk result (λ file. string_bytes file ≡ file_of app.now name.now) }
-{
-    let file = format!(in alloc; "{app}/{name}")?;
-    Ok(file)
 }
 
 // A file that can't be played yet.

@@ -7,38 +7,217 @@ use wl_causes::{MemFolder, MemSink};
 
 /// A run of `run a e`: the files that stand, the status and the text wanted.
 #[derive(Drop, Clone, Copy)]
-struct Row {
-    manifest: Option<&'static str>,
-    main: Option<&'static str>,
-    events: Option<&'static str>,
-    status: u8,
-    text: &'static str,
+pub(crate) struct Row {
+    pub manifest: Option<&'static [u8]>,
+    pub main: Option<&'static [u8]>,
+    pub preload: Option<&'static [u8]>,
+    pub page: Option<&'static [u8]>,
+    pub events: Option<&'static [u8]>,
+    pub status: u8,
+    pub text: &'static [u8],
 }
 
-const EMPTY: Row = Row {
+pub(crate) const EMPTY: Row = Row {
     manifest: None,
-    main: Some(""),
-    events: Some(""),
+    main: Some(b""),
+    preload: None,
+    page: None,
+    events: Some(b""),
     status: 0,
-    text: "main << load\nmain > rest 0\n",
+    text: b"main << load\nmain > rest 0\n",
 };
+
+/// Manifests and files that are refused.
+const MANIFESTS: [Row; 12] = [
+    Row {
+        main: None,
+        status: 4,
+        text: b"! absent a/main.js\n",
+        ..EMPTY
+    },
+    Row {
+        manifest: Some(b"{}"),
+        main: None,
+        status: 4,
+        text: b"! absent a/main.js\n",
+        ..EMPTY
+    },
+    Row {
+        manifest: Some(b"{\"main\":\"x/y.js\"}"),
+        status: 4,
+        text: b"! absent a/x/y.js\n",
+        ..EMPTY
+    },
+    Row {
+        events: None,
+        status: 4,
+        text: b"! absent e\n",
+        ..EMPTY
+    },
+    Row {
+        manifest: Some(b"{"),
+        main: None,
+        status: 5,
+        text: b"! json a/worlds.json\n",
+        ..EMPTY
+    },
+    Row {
+        manifest: Some(b"{\"windows\":[{}]}"),
+        main: None,
+        status: 5,
+        text: b"! shape a/worlds.json windows[0].page\n",
+        ..EMPTY
+    },
+    Row {
+        manifest: Some(b"{\"limits\":{\"steps\":0}}"),
+        status: 5,
+        text: b"! shape a/worlds.json limits.steps\n",
+        ..EMPTY
+    },
+    Row {
+        manifest: Some(b"{\"title\":1}"),
+        status: 5,
+        text: b"! shape a/worlds.json title\n",
+        ..EMPTY
+    },
+    Row {
+        manifest: Some(b"[]"),
+        status: 5,
+        text: b"! shape a/worlds.json .\n",
+        ..EMPTY
+    },
+    Row {
+        main: None,
+        events: None,
+        status: 4,
+        text: b"! absent a/main.js\n",
+        ..EMPTY
+    },
+    Row {
+        main: Some(b"x"),
+        events: None,
+        status: 6,
+        text: b"! script a/main.js 1 token\n",
+        ..EMPTY
+    },
+    Row {
+        main: Some(b"f();"),
+        events: None,
+        status: 4,
+        text: b"! absent e\n",
+        ..EMPTY
+    },
+];
+
+/// Event scripts that are refused.
+const EVENTS: [Row; 7] = [
+    Row {
+        events: Some(b"step 0"),
+        status: 7,
+        text: b"! line e 1\n",
+        ..EMPTY
+    },
+    Row {
+        events: Some(b"# a\n\nstep 1\nstep 01"),
+        status: 7,
+        text: b"! line e 4\n",
+        ..EMPTY
+    },
+    Row {
+        main: Some(b"f();"),
+        events: Some(b"step 0"),
+        status: 7,
+        text: b"! line e 1\n",
+        ..EMPTY
+    },
+    Row {
+        manifest: Some(b"{\"windows\":[{\"page\":\"main.js\"}]}"),
+        events: Some(b"step 0"),
+        status: 7,
+        text: b"! line e 1\n",
+        ..EMPTY
+    },
+    Row {
+        manifest: Some(b"{\"limits\":{\"depth\":999}}"),
+        main: Some(b"f();"),
+        events: Some(b"step main"),
+        status: 6,
+        text: b"! script e 0 notbuilt\n",
+        ..EMPTY
+    },
+    Row {
+        main: Some(b"f();"),
+        events: Some(b"step main"),
+        status: 6,
+        text: b"! script e 0 notbuilt\n",
+        ..EMPTY
+    },
+    Row {
+        events: Some(b"step main"),
+        status: 6,
+        text: b"! script e 0 notbuilt\n",
+        ..EMPTY
+    },
+];
+
+/// Scripts with a fault, and its place.
+const FAULTS: [Row; 6] = [
+    Row {
+        main: Some(b"let x = 1.5;"),
+        status: 6,
+        text: b"! script a/main.js 8 number\n",
+        ..EMPTY
+    },
+    Row {
+        main: Some(b"console.log(\"a\""),
+        status: 6,
+        text: b"! script a/main.js 15 token\n",
+        ..EMPTY
+    },
+    Row {
+        main: Some(b"console.log(07);"),
+        status: 6,
+        text: b"! script a/main.js 12 number\n",
+        ..EMPTY
+    },
+    Row {
+        main: Some(b"console.log(9007199254740992);"),
+        status: 6,
+        text: b"! script a/main.js 12 number\n",
+        ..EMPTY
+    },
+    Row {
+        main: Some(b"let a; let a;"),
+        status: 6,
+        text: b"! script a/main.js 11 twice\n",
+        ..EMPTY
+    },
+    Row {
+        main: Some(b"return 1;"),
+        status: 6,
+        text: b"! script a/main.js 0 return\n",
+        ..EMPTY
+    },
+];
 
 fn folder_of(alloc: Global, row: &Row) -> Result<MemFolder, Fail> {
     let mut folder = MemFolder::new(alloc);
     put(&mut folder, "a/worlds.json", row.manifest)?;
     put(&mut folder, "a/main.js", row.main)?;
+    put(&mut folder, "a/preload.js", row.preload)?;
+    put(&mut folder, "a/page.js", row.page)?;
     put(&mut folder, "e", row.events)?;
     Ok(folder)
 }
 
-fn put(folder: &mut MemFolder, name: &str, text: Option<&'static str>) -> Result<(), Fail> {
-    if let Some(text) = text {
-        folder.put_file(name, text.as_bytes())?;
+fn put(folder: &mut MemFolder, name: &str, bytes: Option<&'static [u8]>) -> Result<(), Fail> {
+    if let Some(bytes) = bytes {
+        folder.put_file(name, bytes)?;
     }
     Ok(())
 }
 
-fn words_of(alloc: Global, words: &[&'static str]) -> Result<Vec<String>, Fail> {
+pub(crate) fn words_of(alloc: Global, words: &[&'static str]) -> Result<Vec<String>, Fail> {
     let mut list = Vec::new(alloc);
     for word in words {
         list.push(String::from_str(alloc, word)?)?;
@@ -46,10 +225,43 @@ fn words_of(alloc: Global, words: &[&'static str]) -> Result<Vec<String>, Fail> 
     Ok(list)
 }
 
-fn room(alloc: Global) -> Result<MemSink, Fail> {
+pub(crate) fn room(alloc: Global) -> Result<MemSink, Fail> {
     let mut sink = MemSink::new(alloc);
     sink.reserve(4096)?;
     Ok(sink)
+}
+
+// Whether a run has the row's status and text.
+pub(crate) fn holds(alloc: Global, row: &Row) -> Result<bool, Fail> {
+    let words = words_of(alloc, &["run", "a", "e"])?;
+    let mut folder = folder_of(alloc, row)?;
+    let mut sink = room(alloc)?;
+    let status = worlds(alloc, words.as_slice(), &mut folder, &mut sink);
+    Ok(status.code() == row.status && sink.taken() == row.text)
+}
+
+#[test]
+fn manifests_and_files_are_refused(rt: HostRuntime) -> Result<(), Fail> {
+    for row in &MANIFESTS {
+        assert!(rt; holds(rt.alloc(), row)?);
+    }
+    Ok(())
+}
+
+#[test]
+fn event_scripts_are_refused(rt: HostRuntime) -> Result<(), Fail> {
+    for row in &EVENTS {
+        assert!(rt; holds(rt.alloc(), row)?);
+    }
+    Ok(())
+}
+
+#[test]
+fn faults_of_scripts_are_told(rt: HostRuntime) -> Result<(), Fail> {
+    for row in &FAULTS {
+        assert!(rt; holds(rt.alloc(), row)?);
+    }
+    Ok(())
 }
 
 /// Words that fit no command.
@@ -90,208 +302,21 @@ fn words_that_fit_no_command_are_told(rt: HostRuntime) -> Result<(), Fail> {
     Ok(())
 }
 
-/// A conversion of a file `f`: the word, the file's bytes, the status and the text wanted.
-#[derive(Drop, Clone, Copy)]
-struct Converted {
-    word: &'static str,
-    bytes: &'static [u8],
-    status: u8,
-    text: &'static str,
-}
-
-const CONVERTED: [Converted; 27] = [
-    Converted {
-        word: "wire",
-        bytes: b"{\"ab\":\"\xc4\x80\"}",
-        status: 0,
-        text: "FF0F6F2202616200630200017B01\n",
-    },
-    Converted {
-        word: "wire",
-        bytes: b"[-1,2147483647,2147483648,9007199254740991]",
-        status: 0,
-        text: "FF0F4104490149FEFFFFFF0F4E000000000000E0414EFFFFFFFFFFFF3F43240004\n",
-    },
-    Converted {
-        word: "wire",
-        bytes: b"{\"b\":1,\"2\":null,\"10\":true}",
-        status: 0,
-        text: "FF0F6F49043049145422016249027B03\n",
-    },
-    Converted {
-        word: "wire",
-        bytes: b"[0.5]",
-        status: 5,
-        text: "! shape f .\n",
-    },
-    Converted {
-        word: "wire",
-        bytes: b"9007199254740992",
-        status: 5,
-        text: "! shape f .\n",
-    },
-    Converted {
-        word: "wire",
-        bytes: b"[1,]",
-        status: 5,
-        text: "! json f\n",
-    },
-    Converted {
-        word: "wire",
-        bytes: b"\xff",
-        status: 5,
-        text: "! json f\n",
-    },
-    Converted {
-        word: "unwire",
-        bytes: b"\xff\x0f\x6f\x22\x01\x61\x5e\x00\x7b\x01",
-        status: 0,
-        text: "#0={\"a\":#0}\n",
-    },
-    Converted {
-        word: "unwire",
-        bytes: b"\xff\x0f\x72\x54\x6d\x22\x03\x62\x61\x64\x73\x22\x01\x78\x2e",
-        status: 0,
-        text: "#0=!TypeError(\"bad\")\n",
-    },
-    Converted {
-        word: "unwire",
-        bytes: b"\xff\x0f\x6f\x22\x01\x61\x5e\x01\x7b\x01",
-        status: 9,
-        text: "! wire 6 reference\n",
-    },
-    Converted {
-        word: "unwire",
-        bytes: b"\xff\x0f",
-        status: 9,
-        text: "! wire 2 cut\n",
-    },
-    Converted {
-        word: "unwire",
-        bytes: b"\xff\x0f\x30\x30",
-        status: 9,
-        text: "! wire 3 trailing\n",
-    },
-    Converted {
-        word: "unwire",
-        bytes: b"",
-        status: 9,
-        text: "! wire 0 cut\n",
-    },
-    Converted {
-        word: "unwire",
-        bytes: b"\x00",
-        status: 9,
-        text: "! wire 0 header\n",
-    },
-    Converted {
-        word: "unwire",
-        bytes: b"\xff\x0c\x30",
-        status: 9,
-        text: "! wire 1 version\n",
-    },
-    Converted {
-        word: "unwire",
-        bytes: b"\xff\x0f\x00\x55\x64",
-        status: 0,
-        text: "100\n",
-    },
-    Converted {
-        word: "unwire",
-        bytes: b"\xff\x0f\x61\x01\x49\x00\x49\x06\x40\x01\x01",
-        status: 0,
-        text: "#0=[3]\n",
-    },
-    Converted {
-        word: "unwire",
-        bytes: b"\xff\x0f\x63\x02\x00\x01",
-        status: 0,
-        text: "\"\\u0100\"\n",
-    },
-    Converted {
-        word: "unwire",
-        bytes: b"\xff\x0f\x63\x03",
-        status: 9,
-        text: "! wire 2 text\n",
-    },
-    Converted {
-        word: "unwire",
-        bytes: b"\xff\x0f\x5c\x4d\x00",
-        status: 9,
-        text: "! wire 2 reference\n",
-    },
-    Converted {
-        word: "unwire",
-        bytes: b"\xff\x0f\x42\x02\x01\x02\x56\x42\x00\x02\x00",
-        status: 0,
-        text: "#1=view(#0=bytes(0102),0,2)\n",
-    },
-    Converted {
-        word: "unwire",
-        bytes: b"\xff\x0d\x42\x02\x01\x02\x56\x42\x00\x02",
-        status: 0,
-        text: "#1=view(#0=bytes(0102),0,2)\n",
-    },
-    Converted {
-        word: "unwire",
-        bytes: b"\xff\x0e\x42\x02\x01\x02\x56\x42\x00\x03\x00",
-        status: 9,
-        text: "! wire 6 view\n",
-    },
-    Converted {
-        word: "unwire",
-        bytes: b"\xff\x0f\x41\xff\xff\xff\xff\x0f",
-        status: 9,
-        text: "! wire 8 cut\n",
-    },
-    Converted {
-        word: "unwire",
-        bytes: b"\xff\x0f\x22\xff\xff\xff\xff\x0f",
-        status: 9,
-        text: "! wire 2 toolarge\n",
-    },
-    Converted {
-        word: "unwire",
-        bytes: b"\xff\x0f\x55\xff\xff\xff\xff\xff\x01",
-        status: 9,
-        text: "! wire 3 varint\n",
-    },
-    Converted {
-        word: "unwire",
-        bytes: b"\xff\x0f\x6f\x22\x01\x61\x49\x02\x22\x01\x61\x49\x04\x7b\x02",
-        status: 9,
-        text: "! wire 8 key\n",
-    },
-];
-
-#[test]
-fn messages_are_spelt_and_read(rt: HostRuntime) -> Result<(), Fail> {
-    let alloc = rt.alloc();
-    for row in &CONVERTED {
-        let words = words_of(alloc, &[row.word, "f"])?;
-        let mut folder = MemFolder::new(alloc);
-        folder.put_file("f", row.bytes)?;
-        let mut sink = room(alloc)?;
-        let status = worlds(alloc, words.as_slice(), &mut folder, &mut sink);
-        let text = row.text;
-        assert_eq!(rt; status.code(), row.status, "status of {text}");
-        assert!(rt; sink.taken() == text.as_bytes(), "text of {text}");
-    }
-    Ok(())
-}
-
 #[test]
 fn a_file_over_its_limit_is_told(rt: HostRuntime) -> Result<(), Fail> {
     let alloc = rt.alloc();
     let words = words_of(alloc, &["run", "a", "e"])?;
-    for (extra, code, text) in [(0, 0, EMPTY.text), (1, 11, "! long a/main.js 262144\n")] {
+    for (extra, code, text) in [
+        (0, 0, EMPTY.text),
+        (1, 11, b"! long a/main.js 262144\n".as_slice()),
+    ] {
         let mut folder = folder_of(alloc, &EMPTY)?;
         let blanks = vec![in alloc; b' '; 262_144 + extra]?;
         folder.put_file("a/main.js", blanks.as_slice())?;
         let mut sink = room(alloc)?;
         let status = worlds(alloc, words.as_slice(), &mut folder, &mut sink);
         assert_eq!(rt; status.code(), code);
-        assert!(rt; sink.taken() == text.as_bytes());
+        assert!(rt; sink.taken() == text);
     }
     Ok(())
 }
@@ -301,19 +326,17 @@ fn failing_calls_are_told_with_their_file_and_leave_a_front(rt: HostRuntime) -> 
     let alloc = rt.alloc();
     let words = words_of(alloc, &["run", "a", "e"])?;
     for (call, text) in [
-        (0, "! read a/worlds.json\n"),
-        (1, "! read a/main.js\n"),
-        (2, "! read e\n"),
+        (0, b"! read a/worlds.json\n".as_slice()),
+        (1, b"! read a/main.js\n"),
+        (2, b"! read e\n"),
     ] {
         let mut folder = folder_of(alloc, &EMPTY)?;
         folder.fail_calls(&[call])?;
         let mut sink = room(alloc)?;
         let status = worlds(alloc, words.as_slice(), &mut folder, &mut sink);
-        assert!(rt;
-            matches!(status, Status::FolderFault { .. }) && sink.taken() == text.as_bytes()
-        );
+        assert!(rt; matches!(status, Status::FolderFault { .. }) && sink.taken() == text);
     }
-    for (call, text) in [(0, ""), (1, "main << load\n")] {
+    for (call, text) in [(0, b"".as_slice()), (1, b"main << load\n")] {
         let mut sink = room(alloc)?;
         sink.fail_calls(&[call])?;
         let status = worlds(
@@ -322,7 +345,7 @@ fn failing_calls_are_told_with_their_file_and_leave_a_front(rt: HostRuntime) -> 
             &mut folder_of(alloc, &EMPTY)?,
             &mut sink,
         );
-        assert!(rt; matches!(status, Status::SinkFault) && sink.taken() == text.as_bytes());
+        assert!(rt; matches!(status, Status::SinkFault) && sink.taken() == text);
     }
     Ok(())
 }

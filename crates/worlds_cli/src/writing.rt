@@ -2,48 +2,35 @@
 ghost use Rattle.std.specs.Prelude.{◌≡◌, ◌≤◌, ◌++◌, ◌∷◌, [], codes, IfErr, IfOk, OnOk};
 ghost use Rattle.wl_causes.specs.Causes.{Rose};
 ghost use Rattle.wl_causes.specs.Taking.{with_more, TakesFront};
-ghost use Rattle.js_meaning.specs.Log.{log_of, made_by};
-ghost use Rattle.world_log.specs.Print.{printed_log, printed, main_name};
-ghost use Rattle.world_log.specs.declared.entry.LogItem.TheVariants.{World};
+ghost use Rattle.app_engine.specs.Log.{log_of};
+ghost use Rattle.app_engine.specs.Scripts.{application_spelled};
+ghost use Rattle.app_manifest.specs.Clauses.{texts_of};
+ghost use Rattle.world_log.specs.Print.{printed_log};
 ghost use Rattle.worlds_cli.specs.Clauses.{IsOfWriting};
 ghost use Rattle.worlds_cli.specs.Text.{told, kind_word, wire_word};
 
 use crate::status::{ScriptKind, Status};
-use js_meaning::{Literal, display};
+use app_engine::{PlayFault, play};
+use app_manifest::App;
 use sqlite_items::Items;
 use std::alloc::{AllocError, Global};
 use v8_wire::WireKind;
 use wl_causes::{Sink, write_whole};
-use world_log::{Delivery, Entry, Level, LogItem, Product, WorldName, print};
 
-/// Writes the printed log of a script of the first form, a line as soon as it is made.
-pub fn write_log<K: Sink>(
-    alloc: Global,
-    statements: &[Items<Literal>],
-    sink: &mut K,
-) -> Result<(), Status>
-    ensures ok { OnOk result (K.taken sink.new ≡ with_more (printed_log (log_of statements.now)) (K.taken sink.old)) }
-    ensures front { TakesFront (printed_log (log_of statements.now)) (K.taken sink.old) (K.taken sink.new) }
+/// Plays an application, and writes its printed log, the lines of each world's task as soon as it has yielded. What is
+/// kept of the application is let go.
+#[tactic(auto, using(crate::proofs::Playing::all_played, crate::proofs::Playing::front_played))]
+pub fn write_log<K: Sink>(alloc: Global, app: &App, sink: &mut K) -> Result<(), Status>
+    ensures ok { OnOk result (K.taken sink.new ≡ with_more (printed_log (log_of (application_spelled (texts_of app.now)))) (K.taken sink.old)) }
+    ensures front { TakesFront (printed_log (log_of (application_spelled (texts_of app.now)))) (K.taken sink.old) (K.taken sink.new) }
     ensures err { IfErr result (IsOfWriting (Rose (K.faults sink.old) (K.faults sink.new))) }
     ensures later { K.faults sink.old ≤ K.faults sink.new }
 {
-    let load = Entry::Delivery {
-        fresh: true,
-        what: Delivery::Load,
-    };
-    match write_entry(alloc, load, sink) {
-        Ok(()) => {}
-        Err(status) => return Err(status),
-    }
-    'statements: for literals in statements {
-        match write_console(alloc, literals, sink) {
-            Ok(()) => {}
-            Err(status) => return Err(status),
-        }
-    }
-    match write_entry(alloc, Entry::Product(Product::Rest(0)), sink) {
-        Ok(()) => {}
-        Err(status) => return Err(status),
+    match play(alloc, app, sink) {
+        Ok(_) => {}
+        Err(PlayFault::Memory) => return Err(Status::Memory),
+        Err(PlayFault::Dangling) => return Err(Status::Memory),
+        Err(PlayFault::Sink) => return Err(Status::SinkFault),
     }
     Ok(())
 }
@@ -161,59 +148,6 @@ fn wire_word_of(kind: WireKind) -> &'static str
         WireKind::TooLarge => "toolarge",
         WireKind::View => "view",
     }
-}
-
-// What a statement makes.
-#[tactic(auto, unfolding(js_meaning::specs::Log::made_by))]
-fn write_console<K: Sink>(
-    alloc: Global,
-    literals: &Items<Literal>,
-    sink: &mut K,
-) -> Result<(), Status>
-    ensures ok { OnOk result (K.taken sink.new ≡ with_more (printed (World main_name (made_by literals.now))) (K.taken sink.old)) }
-    ensures front { TakesFront (printed (World main_name (made_by literals.now))) (K.taken sink.old) (K.taken sink.new) }
-    ensures err { IfErr result (IsOfWriting (Rose (K.faults sink.old) (K.faults sink.new))) }
-    ensures later { K.faults sink.old ≤ K.faults sink.new }
-{
-    let text = match display(alloc, literals.as_slice()) {
-        Ok(text) => text,
-        Err(_) => return Err(Status::Memory),
-    };
-    match write_entry(
-        alloc,
-        Entry::Product(Product::Console(Level::Log, text)),
-        sink,
-    ) {
-        Ok(()) => {}
-        Err(status) => return Err(status),
-    }
-    Ok(())
-}
-
-// The line of an entry of the main world, written.
-fn write_entry<K: Sink>(alloc: Global, entry: Entry, sink: &mut K) -> Result<(), Status>
-    ensures ok { OnOk result (K.taken sink.new ≡ with_more (printed (World main_name entry)) (K.taken sink.old)) }
-    ensures front { TakesFront (printed (World main_name entry)) (K.taken sink.old) (K.taken sink.new) }
-    ensures err { IfErr result (IsOfWriting (Rose (K.faults sink.old) (K.faults sink.new))) }
-    ensures later { K.faults sink.old ≤ K.faults sink.new }
-{
-    let line = match line_of(alloc, entry) {
-        Ok(line) => line,
-        Err(_) => return Err(Status::Memory),
-    };
-    match write_line(sink, line.as_slice()) {
-        Ok(()) => {}
-        Err(status) => return Err(status),
-    }
-    Ok(())
-}
-
-// The line of an entry of the main world.
-fn line_of(alloc: Global, entry: Entry) -> Result<Vec<u8>, AllocError>
-    ensures { IfOk result (λ line. line.items ≡ printed (World main_name entry)) }
-{
-    let item = LogItem::World(WorldName::MAIN, entry);
-    print(alloc, &item)
 }
 
 /// A line, written whole or a front of it.

@@ -1,25 +1,36 @@
-use Rattle.std.proofs.Common.{◌∙◌, arith}
-use Rattle.app_engine.specs.declared.writing.Turn.TheVariants.{Runs}
-use Rattle.app_engine.proofs.Pieces.{front_whole}
-use Rattle.app_engine.proofs.Lines.{Written, written_all, written_next, written_stop}
+use Rattle.std.proofs.Common.{◌≡◌, ◌∙◌, List, [], ◌∷◌, ◌++◌, length, ap, sym, refl, append_assoc, arith, rules}
+use Rattle.std.specs.Vec.Iter.{into_iter_items}
+use Rattle.world_log.specs.declared.entry.Product.{Product}
+use Rattle.app_engine.proofs.Lines.{front_written, none_written, one_written}
 use Rattle.app_engine.proofs.writing.write_products.Goals as goal
+
+pub products-init : goal.products-init
+products-init g c = record {
+  all = refl;
+  many = search rules;
+  written = none_written c.args.name (g.K.Sink.taken c.args.sink.now);
+  later = omega arith;
+}
 
 pub products-preserved : goal.products-preserved
 products-preserved g c =
-    let made = c.in-Ok.ensures.ok in
-    let before : Written c.args.name (g.M.Machine.coming c.args.machine.now) (g.M.Machine.coming c.products.machine) Runs (g.K.Sink.taken c.args.sink.now) (g.K.Sink.taken c.products.sink) = rw c.in-Runs.is at c.products.invariant.written in
+    let at = c.products in
+    let x = c.in-Some.product in
+    let steps : into_iter_items at.product-iterator ≡ x ∷ into_iter_items c.next.new.self = c.in-Some.ensures.steps.0 in
+    let was = at.invariant.many in
+    let gone = c.in-Some.ensures.steps.1 in
+    let short = ap length steps in
     record {
-      written = written_next c.args.name (g.M.Machine.coming c.args.machine.now) (g.M.Machine.coming c.products.machine) (g.M.Machine.coming c.write_next.new.machine) made.0 c.in-Ok.turn (g.K.Sink.taken c.args.sink.now) (g.K.Sink.taken c.products.sink) (g.K.Sink.taken c.write_next.new.sink) before made.1 made.2 made.3;
-      later = omega arith;
+      all = append_assoc at.yielded (x ∷ []) _ ∙ (sym (ap (λ (xs : List Product). at.yielded ++ xs) steps) ∙ at.invariant.all);
+      many = omega arith;
+      written = one_written c.args.name at.yielded x _ _ _ at.invariant.written c.in-Ok.ensures.ok;
+      later = omega (arith, at.invariant.later, c.in-Ok.ensures.later);
     }
 
-pub returns : goal.returns
-returns g c =
-    let whole = written_all c.args.name (g.M.Machine.coming c.args.machine.now) (g.M.Machine.coming c.products.machine) c.products.turn (g.K.Sink.taken c.args.sink.now) (g.K.Sink.taken c.products.sink) c.in_default.not-Runs c.products.invariant.written in
-    record {
-      ok = whole;
-      stopped = c.has_stopped.ensures ∙ written_stop c.args.name (g.M.Machine.coming c.args.machine.now) (g.M.Machine.coming c.products.machine) c.products.turn (g.K.Sink.taken c.args.sink.now) (g.K.Sink.taken c.products.sink) c.in_default.not-Runs c.products.invariant.written;
-      front = front_whole _ _ _ whole;
-      err = tt;
-      later = c.products.invariant.later;
-    }
+pub returns-in-Err-clause-front : goal.returns-in-Err-clause-front
+returns-in-Err-clause-front g c =
+    let at = c.products in
+    let x = c.in-Some.product in
+    let steps : into_iter_items at.product-iterator ≡ x ∷ into_iter_items c.next.new.self = c.in-Some.ensures.steps.0 in
+    front_written c.args.name c.args.products.items at.yielded (into_iter_items c.next.new.self) x _ _ _
+    (sym (ap (λ (xs : List Product). at.yielded ++ xs) steps) ∙ (at.invariant.all ∙ c.into_iter-product-iterator.ensures.into_iter_gives.0)) at.invariant.written c.write_entry.ensures.front

@@ -1,6 +1,7 @@
 use Rattle.std.proofs.Common.{◌≡◌, List, ℕ}
-use Rattle.js_meaning.specs.Log.{log_of}
-use Rattle.js_meaning.specs.declared.form.Literal.{Literal}
+use Rattle.app_engine.specs.Log.{log_of}
+use Rattle.app_engine.specs.Scripts.{application_spelled}
+use Rattle.app_manifest.specs.Clauses.{texts_of}
 use Rattle.wl_causes.specs.Causes.{Rose}
 use Rattle.world_log.specs.Print.{printed_log}
 use Rattle.worlds_cli.specs.Command.{run}
@@ -15,12 +16,12 @@ returns-in-Err g c = λ words is.
 pub returns-in-Err-write_log : goal.returns-in-Err-write_log
 returns-in-Err-write_log g c = λ words is.
     ends_writing (g.F.Folder.files c.args.folder.now) words (run c.args.app.now c.args.script.now) is _ _ _ _
-    (printed_log (log_of c.in-Ok.statements)) c.in-Err-write_log.status c.in-Ok.ensures.ok
-    (rw c.as_slice.ensures at c.in-Err-write_log.ensures.front) c.in-Err-write_log.ensures.err
+    (printed_log (log_of (application_spelled (texts_of c.in-Ok.read)))) c.in-Err-write_log.status c.in-Ok.ensures.ok
+    c.in-Err-write_log.ensures.front c.in-Err-write_log.ensures.err
 
 pub returns : goal.returns
 returns g c = λ words is.
     ends_done (g.F.Folder.files c.args.folder.now) words (run c.args.app.now c.args.script.now) is
     (Rose (g.F.Folder.faults c.args.folder.now) (g.F.Folder.faults c.read_run.new.folder))
     (Rose (g.K.Sink.faults c.args.sink.now) (g.K.Sink.faults c.write_log.new.sink)) _ _
-    (printed_log (log_of c.in-Ok.statements)) c.in-Ok.ensures.ok (rw c.as_slice.ensures at c.in-Ok-write_log.ensures.ok)
+    (printed_log (log_of (application_spelled (texts_of c.in-Ok.read)))) c.in-Ok.ensures.ok c.in-Ok-write_log.ensures.ok

@@ -1,2 +1,0 @@
-pub mod Displayed
-pub mod Fronts
