@@ -37,5 +37,7 @@ pub mod Depths
 pub mod Merged
 pub mod Agreed
 pub mod Faults
+pub mod Prompt
+pub mod Deeply
 pub mod Exact
 pub mod Rows
