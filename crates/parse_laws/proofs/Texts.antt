@@ -114,18 +114,21 @@ no-end depth tokens rest items d =
     spells-free language end_kinds script (Derives language depth) (λ n. (language-fits n).1) rules-free (derives-free language end_kinds script (λ n. (language-fits n).1) rules-free depth)
     (any item) refl refl tokens rest items d
 
-pub wholly : (tokens : List Token) (items : Tree Token) (t : Token) (rest : List Token) → Spells language (Derives language nesting) (any item) tokens rest items → rest ≡ t ∷ []
-    → t.kind ≡ kind.End → Derives language (suc nesting) script tokens [] (pair items (leaf t))
+pub wholly : (depth : ℕ) (tokens : List Token) (items : Tree Token) (t : Token) (rest : List Token) → Spells language (Derives language depth) (any item) tokens rest items → rest ≡ t ∷ []
+    → t.kind ≡ kind.End → Derives language (suc depth) script tokens [] (pair items (leaf t))
 unfolding Derives Spells rules entry script_rule
-wholly tokens items t rest d e k = (rest, items, leaf t, d, (t, e, ends t k, refl), refl)
+wholly depth tokens items t rest d e k = (rest, items, leaf t, d, (t, e, ends t k, refl), refl)
+
+pub is-derived : (depth : ℕ) (tokens : List Token) (tree : Tree Token) → AllSame tokens → Derives language depth script tokens [] tree → Derives script_language depth script tokens [] tree
+is-derived depth tokens tree a d =
+    let limit = suc (length tokens) in
+    let one : read language limit depth script tokens ≡ Ok (tree, []) =
+    read-complete language follows language-fits limit (all-apart language follows language-fits parentheses language-told limit) depth script tokens [] tree d refl (omega arith) in
+    read-sound script_language limit depth script tokens (tree, []) (read-alike limit depth script tokens a ∙ one)
 
 pub is-script : (tokens : List Token) (tree : Tree Token) → AllSame tokens → Derives language (suc nesting) script tokens [] tree → IsScript tokens tree
 unfolding IsScript
-is-script tokens tree a d =
-    let limit = suc (length tokens) in
-    let one : read language limit (suc nesting) script tokens ≡ Ok (tree, []) =
-    read-complete language follows language-fits limit (all-apart language follows language-fits parentheses language-told limit) (suc nesting) script tokens [] tree d refl (omega arith) in
-    read-sound script_language limit (suc nesting) script tokens (tree, []) (read-alike limit (suc nesting) script tokens a ∙ one)
+is-script tokens tree a d = is-derived (suc nesting) tokens tree a d
 
 -- What is parsed of a text's tokens is a script, and the nodes are those of its derivation.
 pub text-parsed : (tokens : List Token) (nodes : Nodes) → EndsSo tokens → parsed tokens ≡ Ok nodes → (tree : Tree Token) × IsScript tokens tree × (nodes ≡ nodes_of nesting tree)
@@ -134,6 +137,6 @@ text-parsed tokens nodes w e =
     let f = no-end nesting tokens k.1 k.0 k.2 in
     let last = last-one w.0 f.0 k.1 w.1 (sym w.2 ∙ f.1) w.3 f.2 k.3 w.4 in
     let tree = pair k.0 (leaf w.1) in
-    let is : IsScript tokens tree = is-script tokens tree (text-same tokens w) (wholly tokens k.0 w.1 k.1 k.2 last w.4) in
+    let is : IsScript tokens tree = is-script tokens tree (text-same tokens w) (wholly nesting tokens k.0 w.1 k.1 k.2 last w.4) in
     let nodes_same : nodes ≡ nodes_of nesting tree = let p = script-parsed tokens tree is in cc (p, e) in
     (tree, is, nodes_same)

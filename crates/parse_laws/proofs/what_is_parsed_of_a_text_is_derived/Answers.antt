@@ -1,6 +1,5 @@
 use Rattle.js_token.proofs.Shapes.{tokens_of-ends}
 use Rattle.std.proofs.Common.{length}
-use Rattle.parse_laws.proofs.Deeply as trial
 use Rattle.parse_laws.proofs.Texts.{ends-so, text-parsed}
 use Rattle.parse_laws.proofs.what_is_parsed_of_a_text_is_derived.Goals as goal
 
