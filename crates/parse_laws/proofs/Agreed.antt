@@ -17,7 +17,8 @@ use Rattle.js_parse.specs.Input.{place_at}
 use Rattle.parse_laws.specs.Kinds.{token_kind}
 use Rattle.parse_laws.proofs.Guided.{Told, Was, Goes, done, called, ok_same, wrong, first_of, forked, fault_in, opens_next, many_of, guided, rule_at, guided-continues, many-continues, taking}
 use Rattle.parse_laws.proofs.Sound.{or_left}
-use Rattle.parse_laws.proofs.Walk.{language, language-fits, ahead, rule, chosen-true, chosen-false, guided-stays, rule-stays}
+use Rattle.parse_laws.proofs.Walk.{language, language-fits, ahead, rule}
+use Rattle.parse_laws.proofs.Begun.{chosen-true, chosen-false, guided-stays, rule-stays}
 use Rattle.parse_laws.proofs.Scripts.{end_kinds}
 use Rattle.parse_laws.proofs.Places.{EndsIn, Within, within-self, within-more, Ascends, ends-same, further-first_place, further-second_place, fault_at, Past, fault_place}
 use Rattle.parse_laws.proofs.Covered.{Read}

@@ -22,7 +22,9 @@ use Rattle.js_parse.specs.declared.symbol.Symbol.TheVariants as s
 use Rattle.js_parse.specs.Symbols.{same, of_kind, of_word, of_name, of_mark, marks, or_else, jump_word, control_word, value_word, operator_word, is_name}
 use Rattle.js_parse.specs.Input.{opened_by, arrow_behind, arrow_at, is_arrow_ahead, is_arrow_next, sees, symbol}
 use Rattle.parse_laws.specs.Kinds.{token_kind, numbered}
-use Rattle.parse_laws.proofs.Walk.{language, language-fits, ahead, arrow-agrees, name-agrees, tables, if-alike}
+use Rattle.parse_laws.proofs.Walk.{language, language-fits, ahead, if-alike}
+use Rattle.parse_laws.proofs.Begun.{tables}
+use Rattle.parse_laws.proofs.Steps.{arrow-agrees, name-agrees}
 use Rattle.parse_laws.proofs.Symbols.{open_paren-agrees, close_paren-agrees}
 
 -- ---- parentheses by the kinds of tokens

@@ -24,7 +24,9 @@ use Rattle.parse_laws.specs.Trees.{Parts, parts_at, place_in, place_of_first, sy
 use Rattle.parse_laws.specs.Kinds.{token_kind, numbered}
 use Rattle.parse_laws.proofs.Guided.{guided, many_of, guided-continues, called, Was, Goes, done, Told, forked, first_of}
 use Rattle.parse_laws.proofs.Sound.{vacant}
-use Rattle.parse_laws.proofs.Walk.{language, ahead, rule, told, built, Sim, step, step+, step-same, step-same+, eat-or, on-true, on-false, at-first, sees-starts, pair-front, tables}
+use Rattle.parse_laws.proofs.Walk.{language, ahead, rule, told, built, Sim, step, step+, eat-or, on-true, on-false, at-first}
+use Rattle.parse_laws.proofs.Begun.{tables}
+use Rattle.parse_laws.proofs.Steps.{step-same, step-same+, sees-starts, pair-front}
 use Rattle.parse_laws.proofs.Symbols.{only-comma, only-open_paren, is-open_paren}
 use Rattle.parse_laws.proofs.Parted.{Parted}
 use Rattle.parse_laws.proofs.Bindings.{bind_name-sim}

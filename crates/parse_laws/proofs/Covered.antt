@@ -15,7 +15,8 @@ use Rattle.js_parse.specs.declared.symbol.Symbol.TheVariants as s
 use Rattle.js_parse.specs.Symbols.{of_kind, is_name}
 use Rattle.parse_laws.specs.Kinds.{token_kind, numbered}
 use Rattle.parse_laws.proofs.Guided.{Told, Was, Goes, done, called, wrong, many_of, guided, rule_at, guided-continues, taking}
-use Rattle.parse_laws.proofs.Walk.{language, ahead, rule, at_kind, kind-at, chosen-true, chosen-false, tables}
+use Rattle.parse_laws.proofs.Walk.{language, ahead, rule, at_kind}
+use Rattle.parse_laws.proofs.Begun.{kind-at, chosen-true, chosen-false, tables}
 use Rattle.parse_laws.proofs.Nested.{parted}
 use Rattle.parse_laws.proofs.Operators
 use Rattle.parse_laws.proofs.Behind.{Rest, left_node, assign_kinds, stop_kinds}

@@ -16,14 +16,16 @@ use Rattle.js_parse.specs.declared.fault.Fault.TheVariants as fault
 use Rattle.js_parse.specs.Input.{place_at, later}
 use Rattle.parse_laws.specs.Kinds.{token_kind}
 use Rattle.parse_laws.proofs.Guided.{Told, Was, Goes, done, called, wrong, too_far, first_of, forked, fault_in, opens_next, many_of, guided, rule_at, guided-continues, many-continues, taking}
-use Rattle.parse_laws.proofs.Walk.{language, language-fits, ahead, rule, rule-stays}
+use Rattle.parse_laws.proofs.Walk.{language, language-fits, ahead, rule}
+use Rattle.parse_laws.proofs.Begun.{rule-stays}
 use Rattle.parse_laws.proofs.Scripts.{end_kinds}
 use Rattle.parse_laws.proofs.Places.{EndsIn, Within, within-self, Ascends, ascends-behind, Stands, stands-past, stands-if, stands-more, many-stand, guided-stands, rule-stands, each-free, Past, past-more, fault_place}
 use Rattle.parse_laws.proofs.Covered.{Read, Placed, onward, onward-by}
 use Rattle.parse_laws.proofs.Lockstep.{Fine, fine-behind, past-then}
 use Rattle.parse_laws.proofs.Merged.{Forked}
 use Rattle.parse_laws.proofs.Agreed.{not-both, err-same}
-use Rattle.parse_laws.proofs.Faults.{Forks, each-forks, called-done_is, each-forked}
+use Rattle.parse_laws.proofs.Hanging.{Forks, each-forks, each-forked}
+use Rattle.parse_laws.proofs.Faults.{called-done_is}
 use Rattle.parse_laws.proofs.Prompt.{later-past, first-past, Told-so, stands-told, rule-past}
 
 -- ---- two answers

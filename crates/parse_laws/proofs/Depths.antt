@@ -14,10 +14,12 @@ use Rattle.js_parse.specs.Symbols.{of_kind, same}
 use Rattle.js_parse.specs.Input.{place_at}
 use Rattle.parse_laws.specs.Kinds.{token_kind, numbered}
 use Rattle.parse_laws.proofs.Guided.{Told, Was, Goes, done, called, wrong, too_far, many_of, guided, rule_at, guided-continues, taking}
-use Rattle.parse_laws.proofs.Walk.{language, ahead, rule, at_kind, kind-at, chosen-true, chosen-false, tables}
+use Rattle.parse_laws.proofs.Walk.{language, ahead, rule, at_kind}
+use Rattle.parse_laws.proofs.Begun.{kind-at, chosen-true, chosen-false, tables}
 use Rattle.parse_laws.proofs.Places.{EndsIn, Within, within-self, Stands, stands-more, stands-if, guided-stands, rule-stands}
 use Rattle.parse_laws.proofs.Covered.{Read, Placed, onward, onward-by}
-use Rattle.parse_laws.proofs.Lockstep.{Fine, fine-behind, Lock, Locks, bound}
+use Rattle.parse_laws.proofs.Lockstep.{Fine, fine-behind, Lock}
+use Rattle.parse_laws.proofs.Operands.{Locks, bound}
 use Rattle.parse_laws.proofs.Lists.{shut_by, shut-stands, wholly, listed-lock}
 use Rattle.parse_laws.proofs.Readings.{fine-next, shut_bracket, shut_brace, shut_paren, elements-paired, properties-paired}
 use Rattle.parse_laws.proofs.Headings.{one_x, more_x, comma_x, placed-one, placed-more, placed-comma, commas, params, shut-end, loop-stands, commas-dead, params-dead, param-turn, params-lock}

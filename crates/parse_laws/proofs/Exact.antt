@@ -36,7 +36,8 @@ use Rattle.parse_laws.specs.Trees as mk
 use Rattle.parse_laws.specs.Trees.{parts_at}
 use Rattle.parse_laws.proofs.Guided.{Told, Was, Goes, done, called, wrong, many_of, guided, rule_at, guided-continues, many-continues, taking, called_ok}
 use Rattle.parse_laws.proofs.Sound.{guided-finds, rule-finds}
-use Rattle.parse_laws.proofs.Walk.{language, language-fits, ahead, rule, built, chosen-true, chosen-false, not-begun, tables}
+use Rattle.parse_laws.proofs.Walk.{language, language-fits, ahead, rule, built}
+use Rattle.parse_laws.proofs.Begun.{chosen-true, chosen-false, not-begun, tables}
 use Rattle.parse_laws.proofs.Ahead.{follows, language-told}
 use Rattle.parse_laws.proofs.Symbols.{end-agrees}
 use Rattle.parse_laws.proofs.Nested.{parted}
@@ -54,7 +55,8 @@ use Rattle.parse_laws.proofs.Covered.{Read, Placed}
 use Rattle.parse_laws.proofs.Lockstep.{Fine, fine-behind}
 use Rattle.parse_laws.proofs.Agreed.{Agrees, not-both, err-same, fault-placed as fault-placed_at}
 use Rattle.parse_laws.proofs.Deeply.{guided-grown, many-grown, rule-grown}
-use Rattle.parse_laws.proofs.Faults.{Forks, hangs, hanging, still, guided-agrees, many-agrees, rule-agrees}
+use Rattle.parse_laws.proofs.Hanging.{Forks, hangs, hanging, still}
+use Rattle.parse_laws.proofs.Faults.{guided-agrees, many-agrees, rule-agrees}
 
 module _ (depth : ℕ) where
   abbrev pub item_test : ℕ → Bool
@@ -140,7 +142,7 @@ module _ (depth : ℕ) where
     r = read language limit depth
 
     pub item-agrees : (ts : List Token) → Fine ts → length ts < limit → Agrees (hangs item) ts (guided language ahead (rule depth) item ts done) (read_at language limit r item ts)
-    unfolding InPlace rules entry Rattle.grammar.specs.Tests.decided Rattle.grammar.specs.Pairs.told stops Rattle.grammar.proofs.Free.free still Rattle.parse_laws.proofs.Faults.Forks
+    unfolding InPlace rules entry Rattle.grammar.specs.Tests.decided Rattle.grammar.specs.Pairs.told stops Rattle.grammar.proofs.Free.free still Rattle.parse_laws.proofs.Hanging.Forks
     item-agrees ts f small = guided-agrees limit depth (rule-agrees limit depth) item refl refl refl refl refl refl tt ts f small
 
     pub items-off : (m : List Token) → starts language (among arrow_kinds) m ≡ true → starts language item_test m ≡ false

@@ -15,7 +15,8 @@ use Rattle.js_grammar.specs.Kinds.{names, reserved, kinds, unbroken_kinds, place
 use Rattle.js_grammar.specs.Script.{rules, arrow_kinds, pattern_rule, primary_rule, member_rule, left_rule, unary_rule, mul_rule, add_rule, shift_rule, rel_rule, equal_rule, bit_and_rule, bit_xor_rule, bit_or_rule, and_rule, or_rule, short_rule, cond_rule, assign_rule, expr_rule, arrow_rule, prefixed_rule, new_rule, group_rule, index_rule, computed_rule, array_rule, arguments_rule, template_rule, object_rule, function_rule, declared_rule, parameters_rule, no_parameters_rule, one_parameter_rule, stmt_rule, item_rule, block_rule, for_rule, script_rule}
 use Rattle.js_grammar.proofs.Tables.{parentheses}
 use Rattle.parse_laws.proofs.Guided.{Told, Was, Goes, done, called, first_of, forked, opens_next, taking, many_of, guided, rule_at, many-continues, guided-continues}
-use Rattle.parse_laws.proofs.Walk.{language, language-fits, ahead, rule, tables}
+use Rattle.parse_laws.proofs.Walk.{language, language-fits, ahead, rule}
+use Rattle.parse_laws.proofs.Begun.{tables}
 use Rattle.parse_laws.proofs.Ahead.{follows, language-told, first-ahead, second-ahead}
 
 -- ---- each fork is one before an arrow, and begins as its first part does

@@ -18,11 +18,13 @@ use Rattle.js_parse.specs.Input.{place_at}
 use Rattle.parse_laws.specs.Kinds.{token_kind, numbered}
 use Rattle.parse_laws.proofs.Guided.{Told, Was, Goes, done, called, wrong, too_far, many_of, guided, rule_at, guided-continues, many-continues, taking}
 use Rattle.parse_laws.proofs.Sound.{vacant}
-use Rattle.parse_laws.proofs.Walk.{language, ahead, rule, at_kind, kind-at, chosen-true, chosen-false, not-begun, tables}
+use Rattle.parse_laws.proofs.Walk.{language, ahead, rule, at_kind}
+use Rattle.parse_laws.proofs.Begun.{kind-at, chosen-true, chosen-false, not-begun, tables}
 use Rattle.parse_laws.proofs.Scripts.{end_kinds}
 use Rattle.parse_laws.proofs.Places.{EndsIn, Within, within-self, within-more, Ascends, ascends-behind, Stands, stands-more, stands-then, stands-if, many-stand, guided-stands, rule-stands, Past, stands-past, behind-other}
 use Rattle.parse_laws.proofs.Covered.{Read, Placed, onward, onward-by}
-use Rattle.parse_laws.proofs.Lockstep.{Fine, fine-behind, Lock, Open, follow_kinds, Onward, open-then, stands-onward, Locks, member-open, bound, assigned, defaulted, placed-assign, placed-bind}
+use Rattle.parse_laws.proofs.Lockstep.{Fine, fine-behind, Lock, Open, follow_kinds, Onward, open-then, stands-onward, defaulted}
+use Rattle.parse_laws.proofs.Operands.{Locks, member-open, bound, assigned, placed-assign, placed-bind}
 use Rattle.parse_laws.proofs.Lists.{comma_kinds, comma-no_end, shut_by, shut-lock, shut-none, shut-stands, within-short, reads, wholly, listed-lock}
 use Rattle.parse_laws.proofs.Readings.{fine-next, shut_bracket, shut_brace, shut_paren, dots, no-dots, placed-parameter, elements-paired, properties-paired}
 
@@ -71,7 +73,7 @@ one-off m e o = (by m e o, off-covered language refused shut_paren m refl o)
   where
     by : (m : List Token) → starts language (among (firsts language.heads bind)) m ≡ false → starts language (among refused) m ≡ false
         → starts language (among (firsts language.heads one_x)) m ≡ false
-    by m e o = off-covered language (firsts language.heads bind ++ refused) (firsts language.heads one_x) m refl (Rattle.parse_laws.proofs.Walk.starts-neither (firsts language.heads bind) refused m e o)
+    by m e o = off-covered language (firsts language.heads bind ++ refused) (firsts language.heads one_x) m refl (Rattle.parse_laws.proofs.Steps.starts-neither (firsts language.heads bind) refused m e o)
 
 module _ (depth : ℕ) where
   -- expressions, and parameters, behind a first

@@ -16,7 +16,8 @@ use Rattle.parse_laws.specs.Trees.{first_token}
 use Rattle.js_parse.specs.Input.{place_at}
 use Rattle.parse_laws.proofs.Guided.{Told, Was, Goes, done, called, wrong, many_of, guided, rule_at, guided-continues, many-continues, taking}
 use Rattle.parse_laws.proofs.Sound.{vacant, read-front}
-use Rattle.parse_laws.proofs.Walk.{language, ahead, rule, chosen-true, chosen-false, goes-so, each-takes, tables}
+use Rattle.parse_laws.proofs.Walk.{language, ahead, rule, goes-so, each-takes}
+use Rattle.parse_laws.proofs.Begun.{chosen-true, chosen-false, tables}
 use Rattle.parse_laws.proofs.Loops.{member-came}
 use Rattle.parse_laws.proofs.Scripts.{end_kinds}
 use Rattle.parse_laws.proofs.Places.{EndsIn, Within, within-self, within-more, Ascends, ascends-behind, Stands, stands-more, stands-then, stands-if, taking-stands, many-stand, guided-stands, rule-stands, Past, stands-past}

@@ -31,7 +31,9 @@ use Rattle.parse_laws.specs.Trees as mk
 use Rattle.parse_laws.specs.Trees.{Parts, parts_at, place_in, symbol_in, first_token, first, second, under, Build}
 use Rattle.parse_laws.proofs.Guided.{guided, Goes, done, wrong}
 use Rattle.parse_laws.proofs.Sound.{vacant, read-front, read-maybe}
-use Rattle.parse_laws.proofs.Walk.{refusals, ahead, rule, told, built, Sim, step, step-same, step-same+, step-expect, if-alike, goes-so, each-takes, language, sim-by, sim-by-at, sim-at, at_kind, kind-at, any_name-at, none-at_end, tables}
+use Rattle.parse_laws.proofs.Walk.{ahead, rule, told, built, Sim, step, step-expect, if-alike, goes-so, each-takes, language, at_kind, none-at_end}
+use Rattle.parse_laws.proofs.Begun.{refusals, sim-by, kind-at, tables}
+use Rattle.parse_laws.proofs.Steps.{step-same, step-same+, sim-by-at, sim-at, any_name-at}
 use Rattle.parse_laws.proofs.Symbols.{only-open_brace, only-close_brace}
 use Rattle.parse_laws.proofs.Loops.{listed-sim, none-first}
 use Rattle.parse_laws.proofs.Parted.{Parted}

@@ -19,11 +19,13 @@ use Rattle.js_parse.specs.Input.{place_at, later, arrow_at}
 use Rattle.parse_laws.specs.Kinds.{token_kind, numbered}
 use Rattle.parse_laws.proofs.Guided.{Told, Was, Goes, done, called, wrong, first_of, forked, fault_in, opens_next, guided, rule_at, guided-continues}
 use Rattle.parse_laws.proofs.Sound.{rule-finds}
-use Rattle.parse_laws.proofs.Walk.{language, ahead, rule, at_kind, kind-at, chosen-true, chosen-false, not-begun, tables}
+use Rattle.parse_laws.proofs.Walk.{language, ahead, rule, at_kind}
+use Rattle.parse_laws.proofs.Begun.{kind-at, chosen-true, chosen-false, not-begun, tables}
 use Rattle.parse_laws.proofs.Ahead.{ahead-name, ahead-open, arrow-starts, language-told, behind-brackets, opens-agree}
 use Rattle.parse_laws.proofs.Places.{EndsIn, Within, within-self, within-more, Ascends, ends-same, further-first_place, further-second_place, fault_at, Stands, stands-more, rule-stands, guided-stands, Past, fault_place, stands-past}
 use Rattle.parse_laws.proofs.Covered.{Read, Placed, onward-by, behind, behind-quiet, behind-stands, quiet_kinds, cond-name, cond-paren}
-use Rattle.parse_laws.proofs.Lockstep.{Fine, fine-behind, fine-name, Lock, Onward, past-then, then-ok, then-err, within-of, stands-onward, placed-arrow, named-arrow}
+use Rattle.parse_laws.proofs.Lockstep.{Fine, fine-behind, Lock, Onward, past-then, then-ok, then-err, within-of, stands-onward}
+use Rattle.parse_laws.proofs.Operands.{fine-name, placed-arrow, named-arrow}
 use Rattle.parse_laws.proofs.Depths.{parens}
 
 -- ---- the later of two faults

@@ -19,14 +19,16 @@ use Rattle.js_parse.specs.Symbols.{of_kind, is_name, same}
 use Rattle.js_parse.specs.Input.{place_at, later}
 use Rattle.parse_laws.specs.Kinds.{token_kind, numbered}
 use Rattle.parse_laws.proofs.Guided.{Told, Was, Goes, done, called, wrong, first_of, forked, fault_in, opens_next, many_of, guided, rule_at, guided-continues, taking}
-use Rattle.parse_laws.proofs.Walk.{language, language-fits, ahead, rule, chosen-true, chosen-false, tables}
+use Rattle.parse_laws.proofs.Walk.{language, language-fits, ahead, rule}
+use Rattle.parse_laws.proofs.Begun.{chosen-true, chosen-false, tables}
 use Rattle.parse_laws.proofs.Ahead.{ahead-other, opens-agree}
 use Rattle.parse_laws.proofs.Scripts.{end_kinds}
 use Rattle.parse_laws.proofs.Places.{EndsIn, Within, within-self, Ascends, ascends-behind, place-low, Stands, stands-past, stands-if, guided-stands, rule-stands, each-free, behind-other, Past, past-more, fault_place}
 use Rattle.parse_laws.proofs.Covered.{Read, Placed, onward-by}
 use Rattle.parse_laws.proofs.Lockstep.{Fine, fine-behind, Onward, past-then, stands-onward}
 use Rattle.parse_laws.proofs.Assigning.{among-skips}
-use Rattle.parse_laws.proofs.Faults.{Forks, each-forks, called-done_is}
+use Rattle.parse_laws.proofs.Hanging.{Forks, each-forks}
+use Rattle.parse_laws.proofs.Faults.{called-done_is}
 use Rattle.js_token.specs.Lists.{AscendFrom}
 
 -- ---- places of the later fault

@@ -18,12 +18,14 @@ use Rattle.js_parse.specs.Input.{place_at}
 use Rattle.parse_laws.specs.Kinds.{token_kind, numbered}
 use Rattle.parse_laws.proofs.Guided.{Told, Was, Goes, done, called, wrong, many_of, guided, rule_at, guided-continues, many-continues, taking}
 use Rattle.parse_laws.proofs.Sound.{vacant}
-use Rattle.parse_laws.proofs.Walk.{language, ahead, rule, at_kind, kind-at, chosen-true, chosen-false, not-begun, tables}
+use Rattle.parse_laws.proofs.Walk.{language, ahead, rule, at_kind}
+use Rattle.parse_laws.proofs.Begun.{kind-at, chosen-true, chosen-false, not-begun, tables}
 use Rattle.parse_laws.proofs.Symbols.{end-agrees}
 use Rattle.parse_laws.proofs.Scripts.{end_kinds}
 use Rattle.parse_laws.proofs.Places.{EndsIn, Within, within-self, within-more, Ascends, ascends-behind, Stands, stands-more, stands-then, stands-if, many-stand, guided-stands, rule-stands, Past, stands-past, behind-other}
 use Rattle.parse_laws.proofs.Covered.{Read, Placed, onward, onward-by}
-use Rattle.parse_laws.proofs.Lockstep.{Fine, fine-behind, Lock, Open, Dies, follow_kinds, Onward, open-then, stands-onward, Locks, member-open, bound, assigned, defaulted, bound-none, placed-assign, placed-bind}
+use Rattle.parse_laws.proofs.Lockstep.{Fine, fine-behind, Lock, Open, Dies, follow_kinds, Onward, open-then, stands-onward, defaulted}
+use Rattle.parse_laws.proofs.Operands.{Locks, member-open, bound, assigned, bound-none, placed-assign, placed-bind}
 use Rattle.parse_laws.proofs.Lists.{comma_kinds, comma-no_end, shut_by, shut-lock, shut-none, shut-stands, within-short, reads, comma_then, Paired, wholly, listed-lock}
 
 pub fine-next : (t : Token) (ts : List Token) → Fine (t ∷ ts) → same (of_kind t.kind) s.End ≡ false → Fine ts
