@@ -1,6 +1,6 @@
 -- Arrows, and expressions with commas.
 use Rattle.std.proofs.Common.{true, false, Bool, ◌≡◌, ℕ, zero, suc, List, [], ◌∷◌, length, refl, ap, sym, subst, ◌∙◌, codes}
-use Rattle.std.specs.Prelude.{Option, Some, Ok, Err, if◌then◌else◌}
+use Rattle.std.specs.Prelude.{Ok, Err, if◌then◌else◌}
 use Rattle.grammar.specs.Kinds.{among}
 use Rattle.grammar.specs.Reading.{firsts}
 use Rattle.grammar.specs.Grammar.{Tree, tip, pair, node, both, either, token, line, starts, entry}
@@ -15,7 +15,7 @@ use Rattle.js_parse.specs.declared.symbol.Symbol.TheVariants as s
 use Rattle.js_parse.specs.declared.part.Part.TheVariants as parts
 use Rattle.js_parse.specs.declared.fault.Fault.TheVariants as fault
 use Rattle.js_parse.specs.Symbols.{of_kind, is_name, same}
-use Rattle.js_parse.specs.Input.{Parser, Outcome, Input, and_then, symbol, place, place_at, add, pure, sees, refusal, or_later, is_arrow_ahead, is_arrow_next, ◌>>=◌, fork as fork_of}
+use Rattle.js_parse.specs.Input.{Parser, Input, and_then, symbol, place, place_at, add, pure, sees, refusal, or_later, is_arrow_ahead, is_arrow_next, ◌>>=◌, fork as fork_of}
 use Rattle.js_parse.specs.Grammar as g
 use Rattle.js_parse.specs.Grammar.{function_of, one_parameter}
 use Rattle.js_parse.specs.Nesting.{part_at}

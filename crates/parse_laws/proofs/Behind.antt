@@ -1,6 +1,6 @@
 -- What follows an operand, up to each level of operators.
 use Rattle.std.proofs.Common.{inl, inr, true, false, Bool, ◌≡◌, ℕ, suc, ◌+◌, List, [], ◌∷◌, ◌++◌, length, refl, ap, sym, subst, ◌∙◌, codes}
-use Rattle.std.specs.Prelude.{Option, Some, if◌then◌else◌, Ok}
+use Rattle.std.specs.Prelude.{if◌then◌else◌, Ok}
 use Rattle.grammar.specs.Kinds.{among, apart, covers}
 use Rattle.grammar.specs.Reading.{firsts}
 use Rattle.grammar.specs.Grammar.{Tree, tip, leaf, pair, node, both, token, line, starts}

@@ -1,32 +1,31 @@
 -- Where more may nest, what is read stays so, and so does a fault but one of nesting, behind whose token more is read.
-use Rattle.std.proofs.Common.{inl, inr, true, false, Bool, ◌⊎◌, ◌≡◌, ℕ, zero, suc, ◌+◌, ◌≤◌, ◌<◌, List, [], ◌∷◌, ◌++◌, length, Ok, Err, refl, ap, sym, subst, ◌∙◌, arith}
+use Rattle.std.proofs.Common.{inl, inr, true, false, Bool, ◌⊎◌, ◌≡◌, ℕ, zero, suc, ◌≤◌, ◌<◌, List, [], ◌∷◌, length, Ok, Err, refl, ap, sym, subst, ◌∙◌, arith}
 use Rattle.std.proofs.lemmas.Bool.{ltb-true, ltb-false}
-use Rattle.std.specs.Prelude.{if◌then◌else◌, ◌==◌, ◌||◌, nat_lt}
-use Rattle.grammar.specs.Kinds.{among, and, not}
-use Rattle.grammar.specs.Grammar.{Tree, tip, leaf, pair, node, Grammar, empty, token, call, line, both, either, fork, many, named, prefer, starting, on, starts, entry}
-use Rattle.grammar.specs.Reading.{firsts, nullable}
+use Rattle.std.specs.Prelude.{if◌then◌else◌, ◌==◌, nat_lt}
+use Rattle.grammar.specs.Kinds.{among}
+use Rattle.grammar.specs.Grammar.{Tree, tip, leaf, pair, node, Grammar, empty, token, call, line, both, either, fork, many, named, prefer, starting, on, starts}
+use Rattle.grammar.specs.Reading.{firsts}
 use Rattle.grammar.specs.Tests.{InPlace}
 use Rattle.grammar.proofs.Laws.{plus}
-use Rattle.grammar.proofs.Sets.{and_both, not_true, is_or_not}
+use Rattle.grammar.proofs.Sets.{and_both, not_true}
 use Rattle.grammar.proofs.Free.{free}
 use Rattle.js_token.specs.declared.token.Token.{Token}
-use Rattle.js_grammar.specs.Script.{script, form, parameters, identifier, arrow_tail, cond_rule}
+use Rattle.js_grammar.specs.Script.{script, form, cond_rule}
 use Rattle.js_parse.specs.declared.fault.Fault.{Fault}
 use Rattle.js_parse.specs.declared.fault.Fault.TheVariants as fault
 use Rattle.js_parse.specs.Input.{place_at, later}
-use Rattle.parse_laws.specs.Kinds.{token_kind}
-use Rattle.parse_laws.proofs.Guided.{Told, Was, Goes, done, called, wrong, too_far, first_of, forked, fault_in, opens_next, many_of, guided, rule_at, guided-continues, many-continues, taking}
+use Rattle.parse_laws.proofs.Guided.{Was, Goes, done, called, wrong, too_far, first_of, forked, fault_in, opens_next, many_of, guided, rule_at, guided-continues, many-continues}
 use Rattle.parse_laws.proofs.Walk.{language, language-fits, ahead, rule}
 use Rattle.parse_laws.proofs.Begun.{rule-stays}
 use Rattle.parse_laws.proofs.Scripts.{end_kinds}
-use Rattle.parse_laws.proofs.Places.{EndsIn, Within, within-self, Ascends, ascends-behind, Stands, stands-past, stands-if, stands-more, many-stand, guided-stands, rule-stands, each-free, Past, past-more, fault_place}
-use Rattle.parse_laws.proofs.Covered.{Read, Placed, onward, onward-by}
+use Rattle.parse_laws.proofs.Places.{EndsIn, Within, within-self, ascends-behind, Stands, stands-past, stands-if, many-stand, guided-stands, rule-stands, each-free, Past, fault_place}
+use Rattle.parse_laws.proofs.Covered.{Read, onward, onward-by}
 use Rattle.parse_laws.proofs.Lockstep.{Fine, fine-behind, past-then}
 use Rattle.parse_laws.proofs.Merged.{Forked}
 use Rattle.parse_laws.proofs.Agreed.{not-both, err-same}
 use Rattle.parse_laws.proofs.Hanging.{Forks, each-forks, each-forked}
 use Rattle.parse_laws.proofs.Faults.{called-done_is}
-use Rattle.parse_laws.proofs.Prompt.{later-past, first-past, Told-so, stands-told, rule-past}
+use Rattle.parse_laws.proofs.Prompt.{first-past, Told-so, stands-told, rule-past}
 
 -- ---- two answers
 
@@ -101,8 +100,11 @@ first-grown x y u v t e f o = elim e [
             inr (inl (k.0, k.1, ap (λ x. first_of x y) p ∙ ap (λ e. Err e) k.2, ap (λ u. first_of u v) q ∙ ap (λ e. Err e) k.3))
         | inr d ↦
             let le = o a d.0 p d.1 in
-            inr (inr (d.0, ap (λ x. first_of x y) p ∙ ap (λ y. Err (later a (fault_in y))) d.1 ∙ ap (λ e. Err e) (deep a d.0 le),
-            subst (Past (suc d.0)) (sym (ap (λ u. first_of u v) q)) (later-further (suc d.0) a (fault_in v) (omega (arith, le)) (past-fault_in (suc d.0) v d.2))))
+            inr (inr (
+              d.0,
+              ap (λ x. first_of x y) p ∙ ap (λ y. Err (later a (fault_in y))) d.1 ∙ ap (λ e. Err e) (deep a d.0 le),
+              subst (Past (suc d.0)) (sym (ap (λ u. first_of u v) q)) (later-further (suc d.0) a (fault_in v) (omega (arith, le)) (past-fault_in (suc d.0) v d.2)),
+            ))
       ]
     ]
       where

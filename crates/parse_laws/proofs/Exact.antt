@@ -1,28 +1,26 @@
 -- The place of a script's fault is exact.
 use Rattle.std.proofs.lemmas.List.{append_assoc, append_cancel_right}
 use Rattle.std.proofs.lemmas.Bool.Decides.{leb_tells}
-use Rattle.std.proofs.Common.{inl, inr, true, false, Bool, ◌⊎◌, ◌≡◌, ℕ, zero, suc, ◌≤◌, ◌<◌, List, [], ◌∷◌, ◌++◌, length, refl, ap, sym, subst, ◌∙◌, arith}
+use Rattle.std.proofs.Common.{inl, inr, true, false, Bool, ◌≡◌, ℕ, zero, suc, ◌≤◌, ◌<◌, List, [], ◌∷◌, ◌++◌, length, refl, ap, sym, subst, ◌∙◌, arith}
 use Rattle.std.specs.Prelude.{Ok, Err, if◌then◌else◌}
 use Rattle.grammar.specs.Kinds.{among, apart}
-use Rattle.grammar.specs.Grammar.{Tree, tip, leaf, pair, token, both, many, starts, entry, Viable, NoneGoesOn, Derives, Spells}
+use Rattle.grammar.specs.Grammar.{Tree, tip, leaf, pair, starts, entry, Viable, Derives, Spells}
 use Rattle.grammar.specs.Reading.{Answer, ◌>>=◌, firsts, nullable, token_at, many_at, read_at, read}
 use Rattle.grammar.specs.Tests.{InPlace}
-use Rattle.grammar.proofs.Sets.{off-apart, apart-tells, false_by, is_or_not, begun-surely}
-use Rattle.grammar.proofs.Complete.{in-place, spells-begun, derives-begun}
+use Rattle.grammar.proofs.Sets.{off-apart, is_or_not, begun-surely}
+use Rattle.grammar.proofs.Complete.{spells-begun, derives-begun}
 use Rattle.grammar.proofs.Limits.{exact-place}
-use Rattle.grammar.proofs.Pairs.{in-pairs}
 use Rattle.js_token.specs.declared.token.Token.{Token}
 use Rattle.js_token.specs.declared.token.TokenKind.TheVariants as kind
 use Rattle.js_tree.specs.Nodes.{Nodes}
 use Rattle.js_tree.specs.declared.node.NodeId.{NodeId}
 use Rattle.js_tree.specs.declared.node.Node.TheVariants as made
-use Rattle.js_grammar.specs.Script.{item, always, any, nesting, script, script_language, script_rule, rules, an_end, arrow_kinds}
-use Rattle.js_grammar.proofs.Tables.{tails, examples, parentheses}
+use Rattle.js_grammar.specs.Script.{item, always, any, nesting, script, script_language, script_rule, rules, arrow_kinds}
+use Rattle.js_grammar.proofs.Tables.{tails, examples}
 use Rattle.js_grammar.proofs.Passes.{script-fits, script-opens, script-apart}
 use Rattle.js_parse.specs.declared.fault.Fault.{Fault}
 use Rattle.js_parse.specs.declared.fault.Fault.TheVariants as fault
 use Rattle.js_parse.specs.declared.fault.ParseFault.{ParseFault}
-use Rattle.js_parse.specs.declared.fault.ParseFault.TheVariants as answer
 use Rattle.js_parse.specs.declared.symbol.Symbol.TheVariants as s
 use Rattle.js_parse.specs.Symbols.{same, of_kind}
 use Rattle.js_parse.specs.Ready.{symbol_of}
@@ -34,28 +32,28 @@ use Rattle.parse_laws.specs.Kinds.{token_kind}
 use Rattle.parse_laws.specs.Agreement.{FaultIs}
 use Rattle.parse_laws.specs.Trees as mk
 use Rattle.parse_laws.specs.Trees.{parts_at}
-use Rattle.parse_laws.proofs.Guided.{Told, Was, Goes, done, called, wrong, many_of, guided, rule_at, guided-continues, many-continues, taking, called_ok}
+use Rattle.parse_laws.proofs.Guided.{Was, Goes, done, called, wrong, many_of, guided, guided-continues, many-continues, taking, called_ok}
 use Rattle.parse_laws.proofs.Sound.{guided-finds, rule-finds}
 use Rattle.parse_laws.proofs.Walk.{language, language-fits, ahead, rule, built}
 use Rattle.parse_laws.proofs.Begun.{chosen-true, chosen-false, not-begun, tables}
-use Rattle.parse_laws.proofs.Ahead.{follows, language-told}
+use Rattle.parse_laws.proofs.Ahead.{follows}
 use Rattle.parse_laws.proofs.Symbols.{end-agrees}
 use Rattle.parse_laws.proofs.Nested.{parted}
 use Rattle.parse_laws.proofs.Stated
-use Rattle.parse_laws.proofs.Followed.{stops, each-stops}
+use Rattle.parse_laws.proofs.Followed.{stops}
 use Rattle.parse_laws.proofs.Scripts.{end_kinds, end-taken}
-use Rattle.parse_laws.proofs.Kindred.{AllSame, read-alike}
+use Rattle.parse_laws.proofs.Kindred.{read-alike}
 use Rattle.grammar.proofs.Local.{ends}
 use Rattle.grammar.proofs.Laws.{plus}
 use Rattle.grammar.proofs.Free.{free}
 use Rattle.parse_laws.proofs.Whole.{is-end}
 use Rattle.parse_laws.proofs.Texts.{EndsSo, text-same, ends as is_ended, no-end, last-one, wholly, is-derived}
-use Rattle.parse_laws.proofs.Places.{EndsIn, Within, within-self, Ascends, ends-order, Stands, fault_at, Past, fault_place, guided-stands, rule-stands, each-free}
+use Rattle.parse_laws.proofs.Places.{EndsIn, Within, Ascends, ends-order, Stands, fault_at, Past, fault_place, guided-stands, rule-stands}
 use Rattle.parse_laws.proofs.Covered.{Read, Placed}
-use Rattle.parse_laws.proofs.Lockstep.{Fine, fine-behind}
+use Rattle.parse_laws.proofs.Lockstep.{Fine}
 use Rattle.parse_laws.proofs.Agreed.{Agrees, not-both, err-same, fault-placed as fault-placed_at}
 use Rattle.parse_laws.proofs.Deeply.{guided-grown, many-grown, rule-grown}
-use Rattle.parse_laws.proofs.Hanging.{Forks, hangs, hanging, still}
+use Rattle.parse_laws.proofs.Hanging.{Forks, hangs, still}
 use Rattle.parse_laws.proofs.Faults.{guided-agrees, many-agrees, rule-agrees}
 
 module _ (depth : ℕ) where
@@ -142,7 +140,7 @@ module _ (depth : ℕ) where
     r = read language limit depth
 
     pub item-agrees : (ts : List Token) → Fine ts → length ts < limit → Agrees (hangs item) ts (guided language ahead (rule depth) item ts done) (read_at language limit r item ts)
-    unfolding InPlace rules entry Rattle.grammar.specs.Tests.decided Rattle.grammar.specs.Pairs.told stops Rattle.grammar.proofs.Free.free still Rattle.parse_laws.proofs.Hanging.Forks
+    unfolding InPlace rules entry Rattle.grammar.specs.Tests.decided Rattle.grammar.specs.Pairs.told stops Rattle.grammar.proofs.Free.free still Forks
     item-agrees ts f small = guided-agrees limit depth (rule-agrees limit depth) item refl refl refl refl refl refl tt ts f small
 
     pub items-off : (m : List Token) → starts language (among arrow_kinds) m ≡ true → starts language item_test m ≡ false

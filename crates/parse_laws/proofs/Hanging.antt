@@ -1,37 +1,28 @@
 -- Which parts may end before an arrow, and what forks: those of an expression and an arrow alone.
-use Rattle.std.proofs.Common.{inl, inr, true, false, Bool, ◌⊎◌, ◌≡◌, ℕ, zero, suc, ◌+◌, ◌≤◌, ◌<◌, List, [], ◌∷◌, ◌++◌, length, Ok, Err, refl, ap, sym, subst, ◌∙◌, arith, codes}
-use Rattle.std.proofs.lemmas.List.{length-append}
-use Rattle.std.specs.Prelude.{if◌then◌else◌, ◌==◌, ◌||◌}
-use Rattle.grammar.specs.Kinds.{among, apart, covers, alike, and, not}
-use Rattle.grammar.specs.Grammar.{Tree, tip, leaf, pair, node, Grammar, empty, token, call, line, both, either, fork, many, named, prefer, starting, on, Derives, Spells, starts, entry}
-use Rattle.grammar.specs.Reading.{Answer, ◌>>=◌, firsts, nullable, further, furthest, refused, choose, perhaps, many_at, read_at, read}
-use Rattle.grammar.specs.Tests.{decided, goes_on, InPlace}
-use Rattle.grammar.specs.Pairs.{told, leads, alone, before_stop}
-use Rattle.grammar.proofs.Sets.{and_both, not_true, off-apart, at-covered, off-covered, is_or_not, or_right, begun-surely}
-use Rattle.grammar.proofs.Complete.{in-place, spells-begun, derives-begun}
-use Rattle.grammar.proofs.Pairs.{in-pairs}
+use Rattle.std.proofs.Common.{inl, inr, true, false, Bool, ◌≡◌, ℕ, zero, suc, ◌+◌, List, [], ◌∷◌, ◌++◌, Ok, Err, refl, ap, sym, subst, ◌∙◌, arith}
+use Rattle.std.specs.Prelude.{if◌then◌else◌, ◌||◌}
+use Rattle.grammar.specs.Kinds.{among, apart, and}
+use Rattle.grammar.specs.Grammar.{leaf, Grammar, empty, token, call, line, both, either, fork, many, named, prefer, starting, on, starts, entry}
+use Rattle.grammar.specs.Reading.{firsts, nullable}
+use Rattle.grammar.specs.Tests.{InPlace}
+use Rattle.grammar.proofs.Sets.{and_both, is_or_not}
 use Rattle.grammar.proofs.Free.{free}
 use Rattle.js_token.specs.declared.token.Token.{Token}
-use Rattle.js_grammar.specs.Script.{Rule, script, rules, arrow_kinds, form, parameters, identifier, arrow_tail, pattern_rule, primary_rule, member_rule, left_rule, unary_rule, mul_rule, add_rule, shift_rule, rel_rule, equal_rule, bit_and_rule, bit_xor_rule, bit_or_rule, and_rule, or_rule, short_rule, cond_rule, assign_rule, expr_rule, arrow_rule, prefixed_rule, new_rule, group_rule, index_rule, computed_rule, array_rule, arguments_rule, template_rule, object_rule, function_rule, declared_rule, parameters_rule, no_parameters_rule, one_parameter_rule, stmt_rule, item_rule, block_rule, for_rule, script_rule}
-use Rattle.js_grammar.proofs.Tables.{parentheses}
+use Rattle.js_grammar.specs.Script.{rules, arrow_kinds, form, parameters, identifier, arrow_tail, pattern_rule, primary_rule, member_rule, left_rule, unary_rule, mul_rule, add_rule, shift_rule, rel_rule, equal_rule, bit_and_rule, bit_xor_rule, bit_or_rule, and_rule, or_rule, short_rule, cond_rule, assign_rule, expr_rule, arrow_rule, prefixed_rule, new_rule, group_rule, index_rule, computed_rule, array_rule, arguments_rule, template_rule, object_rule, function_rule, declared_rule, parameters_rule, no_parameters_rule, one_parameter_rule, stmt_rule, item_rule, block_rule, for_rule, script_rule}
 use Rattle.js_parse.specs.declared.symbol.Symbol.TheVariants as s
 use Rattle.js_parse.specs.Symbols.{of_kind, is_name, same}
-use Rattle.js_parse.specs.Input.{place_at, arrow_at}
+use Rattle.js_parse.specs.Input.{place_at}
 use Rattle.parse_laws.specs.Kinds.{token_kind}
-use Rattle.parse_laws.proofs.Guided.{Told, Was, Goes, done, called, wrong, too_far, first_of, forked, fault_in, opens_next, many_of, guided, rule_at, guided-continues, many-continues, taking}
-use Rattle.parse_laws.proofs.Sound.{or_left, guided-finds, rule-finds}
-use Rattle.parse_laws.proofs.Walk.{language, language-fits, ahead, rule}
-use Rattle.parse_laws.proofs.Begun.{chosen-true, chosen-false, guided-stays, rule-stays, not-begun, tables}
-use Rattle.parse_laws.proofs.Ahead.{follows, language-told, first-ahead, second-ahead, ahead-name, ahead-other, arrow-starts, opens-agree, no-name}
+use Rattle.parse_laws.proofs.Guided.{done, wrong, opens_next, guided}
+use Rattle.parse_laws.proofs.Walk.{language, ahead, rule}
+use Rattle.parse_laws.proofs.Begun.{not-begun, tables}
+use Rattle.parse_laws.proofs.Ahead.{ahead-name, ahead-other, arrow-starts, opens-agree}
 use Rattle.parse_laws.proofs.Symbols.{is-open_paren}
-use Rattle.parse_laws.proofs.Followed.{stops, each-stops, alike-same}
-use Rattle.parse_laws.proofs.Scripts.{end_kinds}
-use Rattle.parse_laws.proofs.Places.{EndsIn, Within, within-self, within-more, Ascends, ends-same, fault_at, Past, fault_place, Stands, stands-past, guided-stands, rule-stands, each-free, behind-other}
+use Rattle.parse_laws.proofs.Places.{EndsIn, within-self, Past, Stands, stands-past, guided-stands, rule-stands}
 use Rattle.parse_laws.proofs.Covered.{Read, Placed, behind-quiet, behind-stands, behind, cond-name}
-use Rattle.parse_laws.proofs.Lockstep.{Fine, fine-behind}
+use Rattle.parse_laws.proofs.Lockstep.{Fine}
 use Rattle.parse_laws.proofs.Operands.{fine-name, named-arrow}
-use Rattle.parse_laws.proofs.Merged.{Forked, arrow_x, first, second, tail, tail-stands, tail-off, quiet-arrow, paren-forked, name-forked}
-use Rattle.parse_laws.proofs.Agreed.{Agrees, agrees-more, agrees-if, agrees-then, agrees-wrap, Refused, refused-so, told-second, fork-ahead, fork-off, flags, err-same, not-both, wrong-is}
+use Rattle.parse_laws.proofs.Merged.{Forked, first, second, tail, tail-stands, tail-off, quiet-arrow, paren-forked}
 
 -- ---- which parts may end before an arrow
 

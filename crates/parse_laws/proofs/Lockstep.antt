@@ -1,28 +1,25 @@
 -- The two readings of a parenthesis, token by token: both nest the same, up to the first token that one of them refuses.
-use Rattle.std.proofs.Common.{inl, inr, true, false, Bool, ◌⊎◌, ◌≡◌, ℕ, zero, suc, ◌+◌, ◌≤◌, ◌<◌, List, [], ◌∷◌, ◌++◌, length, Ok, Err, refl, ap, sym, subst, ◌∙◌, arith, codes}
-use Rattle.std.specs.Prelude.{if◌then◌else◌, ◌==◌}
-use Rattle.grammar.specs.Kinds.{among, apart, covers, and}
-use Rattle.grammar.specs.Grammar.{Tree, tip, leaf, pair, node, Grammar, empty, token, call, line, both, either, fork, many, named, prefer, starting, on, starts, entry}
+use Rattle.std.proofs.Common.{inl, inr, true, false, Bool, ◌⊎◌, ◌≡◌, ℕ, ◌≤◌, List, [], ◌∷◌, Ok, Err, refl, ap, sym, subst, ◌∙◌, arith, codes}
+use Rattle.grammar.specs.Kinds.{among, apart, covers}
+use Rattle.grammar.specs.Grammar.{Tree, tip, leaf, pair, node, token, both, starts, entry}
 use Rattle.grammar.specs.Reading.{firsts, nullable}
 use Rattle.grammar.specs.Tests.{InPlace}
-use Rattle.grammar.proofs.Sets.{off-apart, at-covered, is_or_not}
+use Rattle.grammar.proofs.Sets.{at-covered, is_or_not}
 use Rattle.grammar.proofs.Free.{free}
 use Rattle.js_token.specs.declared.token.Token.{Token}
 use Rattle.js_grammar.specs.Kinds.{kinds, mark}
-use Rattle.js_grammar.specs.Script.{Rule, script, rules, any, always, optional, right, bind, default, parameter, identifier, parameters, arrow_tail, arrow_kinds, form, assign_rule, cond_rule}
+use Rattle.js_grammar.specs.Script.{rules, right, default}
 use Rattle.js_parse.specs.declared.fault.Fault.{Fault}
 use Rattle.js_parse.specs.declared.symbol.Symbol.{Symbol}
 use Rattle.js_parse.specs.declared.symbol.Symbol.TheVariants as s
-use Rattle.js_parse.specs.Symbols.{of_kind, is_name, same}
-use Rattle.js_parse.specs.Input.{place_at, arrow_at}
+use Rattle.js_parse.specs.Symbols.{of_kind}
+use Rattle.js_parse.specs.Input.{place_at}
 use Rattle.parse_laws.specs.Kinds.{token_kind, numbered}
-use Rattle.parse_laws.proofs.Guided.{Told, Was, Goes, done, called, wrong, forked, opens_next, many_of, guided, rule_at, guided-continues, taking}
+use Rattle.parse_laws.proofs.Guided.{Was, Goes, done, called, wrong, guided}
 use Rattle.parse_laws.proofs.Walk.{language, ahead, rule, at_kind}
-use Rattle.parse_laws.proofs.Begun.{kind-at, chosen-true, chosen-false, not-begun, tables}
-use Rattle.parse_laws.proofs.Ahead.{ahead-name, ahead-other, arrow-starts, no-name, opening}
-use Rattle.parse_laws.proofs.Scripts.{end_kinds}
-use Rattle.parse_laws.proofs.Places.{EndsIn, Within, within-self, within-more, Ascends, ascends-behind, Stands, stands-more, stands-then, stands-if, guided-stands, rule-stands, Past, stands-past, past-more}
-use Rattle.parse_laws.proofs.Covered.{Read, Placed, onward, onward-by, stopped, behind, behind-quiet, behind-stands, behind-equals, equals-behind, quiet_kinds, cond-name, cond-paren, cond-brace, cond-bracket}
+use Rattle.parse_laws.proofs.Begun.{kind-at, chosen-false, tables}
+use Rattle.parse_laws.proofs.Places.{EndsIn, Within, within-self, Ascends, ascends-behind, Stands, stands-then, Past, stands-past, past-more}
+use Rattle.parse_laws.proofs.Covered.{Read, Placed, onward-by, stopped, behind, behind-quiet, behind-stands, behind-equals, quiet_kinds}
 
 -- ---- one that is dead, and another that goes on
 

@@ -1,6 +1,6 @@
 -- Members of object literals.
 use Rattle.std.proofs.Common.{inl, inr, true, false, Bool, ◌≡◌, ℕ, List, [], ◌∷◌, refl, ap, sym, ◌∙◌, codes}
-use Rattle.std.specs.Prelude.{Some, None, if◌then◌else◌, Ok, Err}
+use Rattle.std.specs.Prelude.{Some, if◌then◌else◌, Ok, Err}
 use Rattle.grammar.specs.Kinds.{among, apart}
 use Rattle.grammar.specs.Reading.{firsts, nullable}
 use Rattle.grammar.specs.Tests.{InPlace}

@@ -1,6 +1,6 @@
 -- Operators between operands.
 use Rattle.std.proofs.Common.{inl, inr, true, false, Bool, ◌⊎◌, ◌≡◌, ℕ, zero, suc, List, [], ◌∷◌, length, refl, ap, sym, subst, ◌∙◌, codes}
-use Rattle.std.specs.Prelude.{Option, Some, if◌then◌else◌, Ok}
+use Rattle.std.specs.Prelude.{if◌then◌else◌, Ok}
 use Rattle.grammar.specs.Kinds.{among, apart}
 use Rattle.grammar.proofs.Sets.{off-apart}
 use Rattle.grammar.specs.Reading.{firsts}

@@ -1,16 +1,16 @@
 -- What begins as a rule does is read past its first token, two levels deep.
-use Rattle.std.proofs.Common.{inl, inr, true, false, Bool, ◌⊎◌, ◌≡◌, ℕ, zero, suc, ◌+◌, ◌≤◌, ◌<◌, List, [], ◌∷◌, ◌++◌, length, Ok, Err, refl, ap, sym, subst, ◌∙◌, arith}
+use Rattle.std.proofs.Common.{inl, inr, true, false, Bool, ◌⊎◌, ◌≡◌, ℕ, zero, suc, ◌+◌, ◌≤◌, List, [], ◌∷◌, ◌++◌, Ok, Err, refl, ap, sym, subst, ◌∙◌, arith}
 use Rattle.std.proofs.lemmas.Bool.{ltb-true, ltb-false, ne_eqb}
 use Rattle.std.proofs.lemmas.List.{append-nil}
-use Rattle.std.specs.Prelude.{if◌then◌else◌, ◌==◌, ◌||◌, nat_lt}
-use Rattle.grammar.specs.Kinds.{among, apart, covers, kept, and, not}
-use Rattle.grammar.specs.Grammar.{Tree, tip, leaf, pair, node, Grammar, empty, token, call, line, both, either, fork, many, named, prefer, starting, on, starts, entry}
+use Rattle.std.specs.Prelude.{if◌then◌else◌, ◌==◌, nat_lt}
+use Rattle.grammar.specs.Kinds.{among, covers, kept, and, not}
+use Rattle.grammar.specs.Grammar.{Tree, leaf, pair, node, Grammar, empty, token, call, line, both, either, fork, many, named, prefer, starting, on, starts, entry}
 use Rattle.grammar.specs.Reading.{firsts, nullable}
 use Rattle.grammar.specs.Tests.{InPlace}
-use Rattle.grammar.proofs.Sets.{and_both, not_true, off-apart, at-covered, is_or_not, kept-among}
+use Rattle.grammar.proofs.Sets.{and_both, not_true, at-covered, is_or_not, kept-among}
 use Rattle.grammar.proofs.Free.{free}
 use Rattle.js_token.specs.declared.token.Token.{Token}
-use Rattle.js_grammar.specs.Script.{Rule, script, rules, heads, form, parameters, identifier, arrow_tail, pattern_rule, primary_rule, member_rule, left_rule, unary_rule, mul_rule, add_rule, shift_rule, rel_rule, equal_rule, bit_and_rule, bit_xor_rule, bit_or_rule, and_rule, or_rule, short_rule, cond_rule, assign_rule, expr_rule, arrow_rule, prefixed_rule, new_rule, group_rule, index_rule, computed_rule, array_rule, arguments_rule, template_rule, object_rule, function_rule, declared_rule, parameters_rule, no_parameters_rule, one_parameter_rule, stmt_rule, item_rule, block_rule, for_rule, script_rule}
+use Rattle.js_grammar.specs.Script.{script, rules, heads, parameters, identifier, arrow_tail, pattern_rule, primary_rule, member_rule, left_rule, unary_rule, mul_rule, add_rule, shift_rule, rel_rule, equal_rule, bit_and_rule, bit_xor_rule, bit_or_rule, and_rule, or_rule, short_rule, cond_rule, assign_rule, expr_rule, arrow_rule, prefixed_rule, new_rule, group_rule, index_rule, computed_rule, array_rule, arguments_rule, template_rule, object_rule, function_rule, declared_rule, parameters_rule, no_parameters_rule, one_parameter_rule, stmt_rule, item_rule, block_rule, for_rule, script_rule}
 use Rattle.js_parse.specs.declared.fault.Fault.{Fault}
 use Rattle.js_parse.specs.declared.fault.Fault.TheVariants as fault
 use Rattle.js_parse.specs.declared.symbol.Symbol.{Symbol}
@@ -18,14 +18,14 @@ use Rattle.js_parse.specs.declared.symbol.Symbol.TheVariants as s
 use Rattle.js_parse.specs.Symbols.{of_kind, is_name, same}
 use Rattle.js_parse.specs.Input.{place_at, later}
 use Rattle.parse_laws.specs.Kinds.{token_kind, numbered}
-use Rattle.parse_laws.proofs.Guided.{Told, Was, Goes, done, called, wrong, first_of, forked, fault_in, opens_next, many_of, guided, rule_at, guided-continues, taking}
+use Rattle.parse_laws.proofs.Guided.{Was, Goes, done, called, wrong, first_of, forked, fault_in, opens_next, guided, rule_at, guided-continues}
 use Rattle.parse_laws.proofs.Walk.{language, language-fits, ahead, rule}
-use Rattle.parse_laws.proofs.Begun.{chosen-true, chosen-false, tables}
+use Rattle.parse_laws.proofs.Begun.{tables}
 use Rattle.parse_laws.proofs.Ahead.{ahead-other, opens-agree}
 use Rattle.parse_laws.proofs.Scripts.{end_kinds}
-use Rattle.parse_laws.proofs.Places.{EndsIn, Within, within-self, Ascends, ascends-behind, place-low, Stands, stands-past, stands-if, guided-stands, rule-stands, each-free, behind-other, Past, past-more, fault_place}
-use Rattle.parse_laws.proofs.Covered.{Read, Placed, onward-by}
-use Rattle.parse_laws.proofs.Lockstep.{Fine, fine-behind, Onward, past-then, stands-onward}
+use Rattle.parse_laws.proofs.Places.{EndsIn, within-self, Ascends, ascends-behind, place-low, Stands, stands-past, stands-if, guided-stands, rule-stands, each-free, behind-other, Past, fault_place, fault_at}
+use Rattle.parse_laws.proofs.Covered.{Read, onward-by}
+use Rattle.parse_laws.proofs.Lockstep.{Fine, past-then}
 use Rattle.parse_laws.proofs.Assigning.{among-skips}
 use Rattle.parse_laws.proofs.Hanging.{Forks, each-forks}
 use Rattle.parse_laws.proofs.Faults.{called-done_is}
@@ -54,7 +54,7 @@ pub stands-told : (ts : List Token) (w : Was Token) → Stands ts w → Told-so 
 stands-told ts (Ok q) s e = cc (e)
 stands-told ts (Err f) s e = by s.0 (sym s.3 ∙ e)
   where
-    by : (d : Bool) → Rattle.parse_laws.proofs.Places.fault_at d s.1 s.2 ≡ fault.Memory → ⊥
+    by : (d : Bool) → fault_at d s.1 s.2 ≡ fault.Memory → ⊥
     by true e = cc (e)
     by false e = cc (e)
 

@@ -1,28 +1,23 @@
 -- More steps: names, tokens that may come or must, and what stands ahead.
-use Rattle.std.proofs.Common.{inl, inr, true, false, Bool, ◌⊎◌, ◌≡◌, ℕ, zero, suc, ◌≤◌, List, [], ◌∷◌, ◌++◌, length, refl, ap, sym, ◌∙◌, arith, codes}
-use Rattle.std.proofs.lemmas.List.{append-nil}
-use Rattle.std.specs.Prelude.{if◌then◌else◌, ◌==◌, ◌%◌, Option, Some, None, Ok, Err}
-use Rattle.grammar.specs.Kinds.{among, kept, alike}
-use Rattle.grammar.specs.Grammar.{Tree, tip, leaf, pair, node, Grammar, empty, token, call, line, both, either, fork, many, named, prefer, starting, on, entry, starts, Derives, Spells, Chain}
-use Rattle.grammar.specs.Reading.{firsts, nullable}
-use Rattle.grammar.specs.Tests.{Fits, InPlace}
-use Rattle.grammar.proofs.Sets.{test_was, off-left, off-right, off-covered, off-kept, or_right}
-use Rattle.grammar.proofs.Complete.{in-place}
+use Rattle.std.proofs.Common.{inl, inr, true, false, Bool, ◌≡◌, ℕ, zero, suc, ◌≤◌, List, [], ◌∷◌, ◌++◌, length, refl, ap, sym, ◌∙◌, arith, codes}
+use Rattle.std.specs.Prelude.{if◌then◌else◌, ◌==◌, ◌%◌, Some, Ok, Err}
+use Rattle.grammar.specs.Kinds.{among}
+use Rattle.grammar.specs.Grammar.{Tree, tip, leaf, pair, Grammar, token, call, both, many, prefer, entry, starts, Derives, Spells, Chain}
+use Rattle.grammar.specs.Reading.{firsts}
+use Rattle.grammar.proofs.Sets.{test_was}
 use Rattle.js_token.specs.declared.token.Token.{Token}
 use Rattle.js_tree.specs.Nodes.{Nodes}
-use Rattle.js_grammar.specs.Kinds.{kinds, unbroken_kinds, names, reserved, place_in as kind_place, mark, word, marks, words, contextual}
-use Rattle.js_grammar.specs.Script.{rules, heads, arrow_kinds, any, member_suffix, script_language, pattern_rule, primary_rule, member_rule, left_rule, unary_rule, mul_rule, add_rule, shift_rule, rel_rule, equal_rule, bit_and_rule, bit_xor_rule, bit_or_rule, and_rule, or_rule, short_rule, cond_rule, assign_rule, expr_rule, arrow_rule, prefixed_rule, new_rule, group_rule, index_rule, computed_rule, array_rule, arguments_rule, template_rule, object_rule, function_rule, declared_rule, parameters_rule, no_parameters_rule, one_parameter_rule, stmt_rule, item_rule, block_rule, for_rule, script_rule}
-use Rattle.js_grammar.proofs.Tables.{tails}
-use Rattle.js_grammar.proofs.Passes.{script-fits}
+use Rattle.js_grammar.specs.Kinds.{kinds, names, reserved, mark, word}
+use Rattle.js_grammar.specs.Script.{rules, arrow_kinds, any, member_suffix, primary_rule, member_rule, new_rule}
 use Rattle.js_parse.specs.declared.symbol.Symbol.{Symbol}
 use Rattle.js_parse.specs.declared.symbol.Symbol.TheVariants as s
 use Rattle.js_parse.specs.Symbols.{same, of_kind, is_name, is_any_name}
-use Rattle.js_parse.specs.Input.{Input, Outcome, Parser, and_then, expect, sees, after, next, refusal, place, symbol, symbol as symbol_named, is_arrow_ahead, is_arrow_next, arrow, is_arrow, ◌>>=◌, peek, place_at, name as a_name, any_name, text_of, text, take_text, refuse}
+use Rattle.js_parse.specs.Input.{Input, Outcome, Parser, and_then, expect, sees, after, next, refusal, place, symbol, symbol as symbol_named, arrow, is_arrow, ◌>>=◌, peek, place_at, name as a_name, any_name, text_of, text, take_text, refuse}
 use Rattle.parse_laws.specs.Kinds.{token_kind, numbered}
 use Rattle.parse_laws.specs.Agreement.{language}
 use Rattle.parse_laws.specs.Trees.{Build, first_token, symbol_in, symbol_of_first, place_in, place_of_first, one_of}
-use Rattle.parse_laws.proofs.Guided.{Was, Goes, done, called, taking, many_of, guided, rule_at, ok_same, called_ok, was, many-continues, guided-continues, Told, wrong, too_far}
-use Rattle.parse_laws.proofs.Sound.{vacant, guided-finds, rule-finds, read-front, or_left}
+use Rattle.parse_laws.proofs.Guided.{Goes, done, taking, many_of, guided, rule_at, ok_same, called_ok, was, many-continues, guided-continues, Told, wrong}
+use Rattle.parse_laws.proofs.Sound.{vacant, guided-finds, rule-finds, read-front}
 use Rattle.parse_laws.proofs.Walk.{ahead, rule, told, built, Sim, step, Only, expected, each-takes, none-at_end, goes-so, at-first, at_kind, if-alike}
 use Rattle.parse_laws.proofs.Begun.{at-kind, dispatch, tables}
 

@@ -1,6 +1,6 @@
 -- Templates.
 use Rattle.std.proofs.Common.{true, false, Bool, ◌≡◌, ℕ, zero, suc, ◌≤◌, List, [], ◌∷◌, ◌++◌, length, refl, ap, sym, ◌∙◌, arith}
-use Rattle.std.specs.Prelude.{Option, None, if◌then◌else◌, Err}
+use Rattle.std.specs.Prelude.{if◌then◌else◌, Err}
 use Rattle.grammar.specs.Kinds.{among, apart}
 use Rattle.grammar.specs.Reading.{firsts, nullable}
 use Rattle.grammar.specs.Grammar.{Tree, tip, leaf, pair, both, token}

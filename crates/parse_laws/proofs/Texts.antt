@@ -1,11 +1,11 @@
 -- What is parsed of a text's tokens is a script.
-use Rattle.std.proofs.Common.{inl, inr, true, false, Bool, ◌≡◌, ℕ, zero, suc, ◌+◌, ◌*◌, ◌<◌, List, [], ◌∷◌, ◌++◌, length, refl, ap, sym, subst, ◌∙◌, arith}
-use Rattle.std.specs.Prelude.{Ok, Err, if◌then◌else◌}
-use Rattle.grammar.specs.Kinds.{among, apart, alike}
+use Rattle.std.proofs.Common.{true, false, ◌≡◌, ℕ, suc, ◌+◌, ◌*◌, List, [], ◌∷◌, ◌++◌, length, refl, ap, sym, subst, ◌∙◌, arith}
+use Rattle.std.specs.Prelude.{Ok, if◌then◌else◌}
+use Rattle.grammar.specs.Kinds.{among}
 use Rattle.grammar.specs.Grammar.{Tree, leaf, pair, Derives, Spells, entry}
 use Rattle.grammar.specs.Reading.{read}
 use Rattle.grammar.specs.Tests.{InPlace}
-use Rattle.grammar.proofs.Laws.{read-sound, read_at-sound}
+use Rattle.grammar.proofs.Laws.{read-sound}
 use Rattle.grammar.proofs.Complete.{read-complete}
 use Rattle.grammar.proofs.Pairs.{all-apart}
 use Rattle.grammar.proofs.Free.{free, NoneOf, spells-free, derives-free}
@@ -17,9 +17,8 @@ use Rattle.js_tree.specs.Nodes.{Nodes}
 use Rattle.js_grammar.specs.Kinds.{kinds, end, class_of}
 use Rattle.js_grammar.specs.Script.{item, any, nesting, script, script_language, script_rule, rules}
 use Rattle.js_grammar.specs.Scripts.{IsScript}
-use Rattle.js_grammar.proofs.Tables.{tails, parentheses}
+use Rattle.js_grammar.proofs.Tables.{parentheses}
 use Rattle.js_grammar.proofs.Ends.{rules-free}
-use Rattle.js_parse.specs.declared.symbol.Symbol.{Symbol}
 use Rattle.js_parse.specs.declared.symbol.Symbol.TheVariants as s
 use Rattle.js_parse.specs.Symbols.{same, of_kind, of_mark, marks}
 use Rattle.js_parse.specs.Ready.{symbol_of}
@@ -28,7 +27,7 @@ use Rattle.parse_laws.specs.Kinds.{token_kind, class}
 use Rattle.parse_laws.specs.Trees.{nodes_of}
 use Rattle.parse_laws.proofs.Walk.{language, language-fits}
 use Rattle.parse_laws.proofs.Symbols.{end-agrees}
-use Rattle.parse_laws.proofs.Whole.{script-found, is-end}
+use Rattle.parse_laws.proofs.Whole.{script-found}
 use Rattle.parse_laws.proofs.Ahead.{follows, language-told}
 use Rattle.parse_laws.proofs.Kinded.{Same, words-agree, names-agree, mark-at, each-mark}
 use Rattle.parse_laws.proofs.Kindred.{AllSame, read-alike}
