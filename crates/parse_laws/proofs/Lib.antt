@@ -45,3 +45,4 @@ pub mod Prompt
 pub mod Deeply
 pub mod Exact
 pub mod Rows
+pub mod NestedRows

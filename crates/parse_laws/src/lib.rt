@@ -2,8 +2,9 @@
 //!
 //! `specs/Trees` has the list of nodes that a derivation stands for, `specs/Kinds` the kinds of tokens by their symbols,
 //! and `specs/Agreement` what is promised. In `proofs/`, each rule of the parser is compared with that of the grammar,
-//! depth by depth, as an equation of answers: what is read, its nodes and its faults. `proofs/Rows` has whole scripts,
-//! `proofs/Scripts` what is derived, `proofs/Texts` the tokens of texts, and `proofs/Exact` the places of their faults.
+//! depth by depth, as an equation of answers: what is read, its nodes and its faults. `proofs/Scripts` has what is derived,
+//! `proofs/Texts` the tokens of texts, and `proofs/Exact` the places of their faults; `proofs/Rows` and
+//! `proofs/NestedRows` have whole scripts as rows.
 #![tactic(auto)]
 
 ghost use Rattle.parse_laws.specs.Agreement.{HasOneList, ParsesDerived, ParsesScripts, ParsesTexts, FaultsExactly};
