@@ -1,27 +1,20 @@
 -- The guided reader answers what the reader of the grammar answers, its faults too.
-use Rattle.std.proofs.Common.{inl, inr, true, false, Bool, ◌⊎◌, ◌≡◌, ℕ, zero, suc, ◌+◌, ◌≤◌, ◌<◌, List, [], ◌∷◌, ◌++◌, length, Ok, Err, refl, ap, sym, subst, ◌∙◌, arith, codes}
-use Rattle.std.specs.Prelude.{if◌then◌else◌, ◌==◌, ◌||◌}
-use Rattle.grammar.specs.Kinds.{among, apart, covers, alike, and, not}
-use Rattle.grammar.specs.Grammar.{Tree, tip, leaf, pair, node, Grammar, empty, token, call, line, both, either, fork, many, named, prefer, starting, on, Derives, Spells, starts, entry}
-use Rattle.grammar.specs.Reading.{Answer, ◌>>=◌, firsts, nullable, further, furthest, refused, choose, perhaps, many_at, read_at, read}
-use Rattle.grammar.specs.Tests.{decided, goes_on, InPlace}
-use Rattle.grammar.specs.Pairs.{told, leads, alone, before_stop}
-use Rattle.grammar.proofs.Sets.{and_both, not_true, off-apart, at-covered, off-covered, is_or_not, or_right}
-use Rattle.grammar.proofs.Laws.{refused_ok}
+use Rattle.std.proofs.Common.{inl, inr, true, false, Bool, ◌⊎◌, ◌≡◌, ℕ, ◌≤◌, List, Ok, Err, refl, ap, sym, subst, ◌∙◌, arith}
+use Rattle.std.specs.Prelude.{if◌then◌else◌, ◌||◌}
+use Rattle.grammar.specs.Kinds.{among}
+use Rattle.grammar.specs.Grammar.{Tree, starts}
+use Rattle.grammar.specs.Reading.{Answer, ◌>>=◌, further, furthest, refused}
+use Rattle.grammar.proofs.Sets.{is_or_not}
 use Rattle.js_token.specs.declared.token.Token.{Token}
-use Rattle.js_grammar.specs.Script.{Rule, script, arrow_kinds}
-use Rattle.js_grammar.proofs.Tables.{parentheses}
+use Rattle.js_grammar.specs.Script.{arrow_kinds}
 use Rattle.js_parse.specs.declared.fault.Fault.{Fault}
 use Rattle.js_parse.specs.declared.fault.Fault.TheVariants as fault
 use Rattle.js_parse.specs.Input.{place_at}
-use Rattle.parse_laws.specs.Kinds.{token_kind}
-use Rattle.parse_laws.proofs.Guided.{Told, Was, Goes, done, called, ok_same, wrong, first_of, forked, fault_in, opens_next, many_of, guided, rule_at, guided-continues, many-continues, taking}
-use Rattle.parse_laws.proofs.Sound.{or_left}
-use Rattle.parse_laws.proofs.Walk.{language, language-fits, ahead, rule, chosen-true, chosen-false, guided-stays, rule-stays}
-use Rattle.parse_laws.proofs.Scripts.{end_kinds}
-use Rattle.parse_laws.proofs.Places.{EndsIn, Within, within-self, within-more, Ascends, ends-same, further-first_place, further-second_place, fault_at, Past, fault_place}
+use Rattle.parse_laws.proofs.Guided.{Was, Goes, done, called, ok_same, wrong, first_of, forked, fault_in}
+use Rattle.parse_laws.proofs.Walk.{language, ahead}
+use Rattle.parse_laws.proofs.Places.{Within, within-more, Ascends, further-first_place, further-second_place, fault_at, Past, fault_place}
 use Rattle.parse_laws.proofs.Covered.{Read}
-use Rattle.parse_laws.proofs.Lockstep.{Fine, fine-behind}
+use Rattle.parse_laws.proofs.Lockstep.{Fine}
 use Rattle.parse_laws.proofs.Merged.{merge-first, merge-second, merge-same, Forked}
 
 -- ---- what both answer

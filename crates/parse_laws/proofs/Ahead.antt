@@ -1,19 +1,18 @@
 -- What stands behind a parenthesis, or behind a name, tells which part of a fork is derived.
-use Rattle.std.proofs.Common.{inl, inr, true, false, Bool, ◌⊎◌, ◌≡◌, ℕ, zero, suc, ◌+◌, ◌-◌, ◌≤◌, List, [], ◌∷◌, length, refl, ap, sym, subst, ◌∙◌, arith, codes}
+use Rattle.std.proofs.Common.{inl, inr, true, false, Bool, ◌⊎◌, ◌≡◌, ℕ, zero, suc, ◌-◌, List, [], ◌∷◌, refl, ap, sym, ◌∙◌, arith, codes}
 use Rattle.std.proofs.lemmas.Bool.{ne_eqb}
 use Rattle.std.specs.Prelude.{if◌then◌else◌, ◌==◌, Option, Some, None, nat_eq, slice_index_or}
 use Rattle.std.specs.Cmp.Lexicographic.{pointwise}
-use Rattle.grammar.specs.Kinds.{among, apart, and}
-use Rattle.grammar.specs.Grammar.{Tree, Grammar, Derives, Spells, starts, entry, both}
+use Rattle.grammar.specs.Kinds.{among}
+use Rattle.grammar.specs.Grammar.{Tree, Grammar, Derives, Spells, starts, entry}
 use Rattle.grammar.specs.Tests.{InPlace}
 use Rattle.grammar.specs.Pairs.{Told, leads, alone, before_stop}
-use Rattle.grammar.proofs.Sets.{At, Off, is_or_not, false_by, apart-tells, at-covered, begun-surely}
+use Rattle.grammar.proofs.Sets.{At, Off, is_or_not, false_by, at-covered, begun-surely}
 use Rattle.grammar.proofs.Complete.{derives-begun}
 use Rattle.grammar.proofs.Pairs.{closing, closing-open, closing-close, closing-found, closing-other, derives-scans, wrapped-found, leads-found, alone-found, before-found}
 use Rattle.js_token.specs.declared.token.Token.{Token}
 use Rattle.js_token.specs.declared.token.TokenKind.{TokenKind}
 use Rattle.js_token.specs.declared.token.TokenKind.TheVariants as kind
-use Rattle.js_grammar.specs.Kinds.{kinds, names, mark}
 use Rattle.js_grammar.specs.Script.{arrow_kinds, script_language}
 use Rattle.js_grammar.proofs.Tables.{tails, parentheses}
 use Rattle.js_grammar.proofs.Passes.{script-told}
@@ -21,8 +20,10 @@ use Rattle.js_parse.specs.declared.symbol.Symbol.{Symbol}
 use Rattle.js_parse.specs.declared.symbol.Symbol.TheVariants as s
 use Rattle.js_parse.specs.Symbols.{same, of_kind, of_word, of_name, of_mark, marks, or_else, jump_word, control_word, value_word, operator_word, is_name}
 use Rattle.js_parse.specs.Input.{opened_by, arrow_behind, arrow_at, is_arrow_ahead, is_arrow_next, sees, symbol}
-use Rattle.parse_laws.specs.Kinds.{token_kind, numbered}
-use Rattle.parse_laws.proofs.Walk.{language, language-fits, ahead, arrow-agrees, name-agrees, tables, if-alike}
+use Rattle.parse_laws.specs.Kinds.{token_kind}
+use Rattle.parse_laws.proofs.Walk.{language, language-fits, ahead}
+use Rattle.parse_laws.proofs.Begun.{tables}
+use Rattle.parse_laws.proofs.Steps.{arrow-agrees, name-agrees}
 use Rattle.parse_laws.proofs.Symbols.{open_paren-agrees, close_paren-agrees}
 
 -- ---- parentheses by the kinds of tokens

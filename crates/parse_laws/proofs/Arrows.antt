@@ -1,6 +1,6 @@
 -- Arrows, and expressions with commas.
 use Rattle.std.proofs.Common.{true, false, Bool, ◌≡◌, ℕ, zero, suc, List, [], ◌∷◌, length, refl, ap, sym, subst, ◌∙◌, codes}
-use Rattle.std.specs.Prelude.{Option, Some, Ok, Err, if◌then◌else◌}
+use Rattle.std.specs.Prelude.{Ok, Err, if◌then◌else◌}
 use Rattle.grammar.specs.Kinds.{among}
 use Rattle.grammar.specs.Reading.{firsts}
 use Rattle.grammar.specs.Grammar.{Tree, tip, pair, node, both, either, token, line, starts, entry}
@@ -15,7 +15,7 @@ use Rattle.js_parse.specs.declared.symbol.Symbol.TheVariants as s
 use Rattle.js_parse.specs.declared.part.Part.TheVariants as parts
 use Rattle.js_parse.specs.declared.fault.Fault.TheVariants as fault
 use Rattle.js_parse.specs.Symbols.{of_kind, is_name, same}
-use Rattle.js_parse.specs.Input.{Parser, Outcome, Input, and_then, symbol, place, place_at, add, pure, sees, refusal, or_later, is_arrow_ahead, is_arrow_next, ◌>>=◌, fork as fork_of}
+use Rattle.js_parse.specs.Input.{Parser, Input, and_then, symbol, place, place_at, add, pure, sees, refusal, or_later, is_arrow_ahead, is_arrow_next, ◌>>=◌, fork as fork_of}
 use Rattle.js_parse.specs.Grammar as g
 use Rattle.js_parse.specs.Grammar.{function_of, one_parameter}
 use Rattle.js_parse.specs.Nesting.{part_at}
@@ -24,7 +24,9 @@ use Rattle.parse_laws.specs.Trees.{Parts, parts_at, place_in, place_of_first, sy
 use Rattle.parse_laws.specs.Kinds.{token_kind, numbered}
 use Rattle.parse_laws.proofs.Guided.{guided, many_of, guided-continues, called, Was, Goes, done, Told, forked, first_of}
 use Rattle.parse_laws.proofs.Sound.{vacant}
-use Rattle.parse_laws.proofs.Walk.{language, ahead, rule, told, built, Sim, step, step+, step-same, step-same+, eat-or, on-true, on-false, at-first, sees-starts, pair-front, tables}
+use Rattle.parse_laws.proofs.Walk.{language, ahead, rule, told, built, Sim, step, step+, eat-or, on-true, on-false, at-first}
+use Rattle.parse_laws.proofs.Begun.{tables}
+use Rattle.parse_laws.proofs.Steps.{step-same, step-same+, sees-starts, pair-front}
 use Rattle.parse_laws.proofs.Symbols.{only-comma, only-open_paren, is-open_paren}
 use Rattle.parse_laws.proofs.Parted.{Parted}
 use Rattle.parse_laws.proofs.Bindings.{bind_name-sim}

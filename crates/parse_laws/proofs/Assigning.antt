@@ -26,7 +26,8 @@ use Rattle.parse_laws.specs.Trees as mk
 use Rattle.parse_laws.specs.Trees.{Parts, parts_at, place_in, symbol_in, symbol_of_first, first_token, first, second, under, Build}
 use Rattle.parse_laws.proofs.Guided.{guided, Goes, done, called, called_ok, ok_same, guided-continues, was, wrong}
 use Rattle.parse_laws.proofs.Sound.{vacant, rule-finds, read-front}
-use Rattle.parse_laws.proofs.Walk.{on-true, language, ahead, rule, told, built, Sim, step, step+, step-at, step-expect, eat-step+, each-takes, tables}
+use Rattle.parse_laws.proofs.Walk.{on-true, language, ahead, rule, told, built, Sim, step, step+, step-at, step-expect, eat-step+, each-takes}
+use Rattle.parse_laws.proofs.Begun.{tables}
 use Rattle.parse_laws.proofs.Symbols.{only-question, only-colon, is-question}
 use Rattle.parse_laws.proofs.Parted.{Parted}
 use Rattle.parse_laws.proofs.Expressions

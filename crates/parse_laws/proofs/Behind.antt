@@ -1,6 +1,6 @@
 -- What follows an operand, up to each level of operators.
 use Rattle.std.proofs.Common.{inl, inr, true, false, Bool, ◌≡◌, ℕ, suc, ◌+◌, List, [], ◌∷◌, ◌++◌, length, refl, ap, sym, subst, ◌∙◌, codes}
-use Rattle.std.specs.Prelude.{Option, Some, if◌then◌else◌, Ok}
+use Rattle.std.specs.Prelude.{if◌then◌else◌, Ok}
 use Rattle.grammar.specs.Kinds.{among, apart, covers}
 use Rattle.grammar.specs.Reading.{firsts}
 use Rattle.grammar.specs.Grammar.{Tree, tip, leaf, pair, node, both, token, line, starts}
@@ -18,7 +18,9 @@ use Rattle.parse_laws.specs.Trees as mk
 use Rattle.parse_laws.specs.Trees.{Parts, parts_at, place_in, symbol_in, first, second, under, Build}
 use Rattle.parse_laws.proofs.Guided.{guided, Goes, done, called, called_ok, ok_same, then-same, goes-on, guided-continues, was, if-called, Told}
 use Rattle.parse_laws.proofs.Sound.{vacant}
-use Rattle.parse_laws.proofs.Walk.{language, ahead, rule, told, built, step-at, step-same, tip-took, tables}
+use Rattle.parse_laws.proofs.Walk.{language, ahead, rule, told, built, step-at}
+use Rattle.parse_laws.proofs.Begun.{tables}
+use Rattle.parse_laws.proofs.Steps.{step-same, tip-took}
 use Rattle.parse_laws.proofs.Loops.{Level, chain-sim}
 use Rattle.parse_laws.proofs.Levels.{level-1, level-2, level-3, level-4, level-5, level-6, level-7, level-8, level-9, level-10}
 use Rattle.parse_laws.proofs.Parted.{Parted}

@@ -20,7 +20,8 @@ use Rattle.parse_laws.specs.Kinds.{numbered}
 use Rattle.parse_laws.specs.Trees as mk
 use Rattle.parse_laws.specs.Trees.{first_token, Parts, parts_at}
 use Rattle.parse_laws.proofs.Guided.{guided}
-use Rattle.parse_laws.proofs.Walk.{told, built, Sim, step, eat-step, at_kind, kind-at, sim-by, tables}
+use Rattle.parse_laws.proofs.Walk.{told, built, Sim, step, eat-step, at_kind}
+use Rattle.parse_laws.proofs.Begun.{kind-at, sim-by, tables}
 use Rattle.parse_laws.proofs.Symbols.{only-assign}
 use Rattle.parse_laws.proofs.Parted.{Parted}
 

@@ -25,7 +25,9 @@ use Rattle.parse_laws.specs.Trees as mk
 use Rattle.parse_laws.specs.Trees.{Parts, parts_at, place_in, symbol_in, first_token, first, second, under, Build}
 use Rattle.parse_laws.proofs.Guided.{guided, Goes, wrong}
 use Rattle.parse_laws.proofs.Sound.{vacant, read-front}
-use Rattle.parse_laws.proofs.Walk.{language, ahead, rule, told, built, Sim, step, step+, step-same, step-expect, sim-by, sim-by-at, sim-at, step-arrow, each-takes, at_kind, dispatch, at-first, sees-starts, none-at_end, assoc, tables}
+use Rattle.parse_laws.proofs.Walk.{language, ahead, rule, told, built, Sim, step, step+, step-expect, each-takes, at_kind, at-first, none-at_end}
+use Rattle.parse_laws.proofs.Begun.{sim-by, dispatch, tables}
+use Rattle.parse_laws.proofs.Steps.{step-same, sim-by-at, sim-at, step-arrow, sees-starts, assoc}
 use Rattle.parse_laws.proofs.Symbols.{only-open_paren, only-close_paren, only-open_bracket, only-close_bracket, only-new}
 use Rattle.parse_laws.proofs.Loops.{listed-sim}
 use Rattle.parse_laws.proofs.Parted.{Parted}

@@ -1,27 +1,28 @@
 -- What follows a name, or brackets, that an expression begins with.
-use Rattle.std.proofs.Common.{inl, inr, true, false, Bool, ◌⊎◌, ◌≡◌, ℕ, zero, suc, ◌+◌, ◌≤◌, ◌<◌, List, [], ◌∷◌, ◌++◌, length, Ok, Err, refl, ap, sym, subst, ◌∙◌, arith, codes}
-use Rattle.std.specs.Prelude.{if◌then◌else◌, ◌==◌}
-use Rattle.grammar.specs.Kinds.{among, apart, covers, and}
-use Rattle.grammar.specs.Grammar.{Tree, tip, leaf, pair, node, Grammar, empty, token, call, line, both, either, fork, many, named, prefer, starting, on, starts, entry}
-use Rattle.grammar.specs.Reading.{firsts, nullable}
+use Rattle.std.proofs.Common.{true, false, Bool, ◌≡◌, ℕ, List, [], ◌∷◌, length, Ok, Err, refl, ap, sym, subst, ◌∙◌, codes}
+use Rattle.std.specs.Prelude.{if◌then◌else◌}
+use Rattle.grammar.specs.Kinds.{among, apart, covers}
+use Rattle.grammar.specs.Grammar.{Tree, tip, leaf, pair, node, token, line, both, either, starts, entry}
+use Rattle.grammar.specs.Reading.{firsts}
 use Rattle.grammar.specs.Tests.{InPlace}
 use Rattle.grammar.proofs.Sets.{off-apart, at-covered}
 use Rattle.grammar.proofs.Free.{free}
 use Rattle.js_token.specs.declared.token.Token.{Token}
 use Rattle.js_grammar.specs.Kinds.{kinds, unbroken_kinds, mark}
-use Rattle.js_grammar.specs.Script.{Rule, script, rules, any, always, optional, suffix, form, reaches, right, branches, relational, assign_operators, arrow_kinds, cond_rule, short_rule, or_rule, and_rule, bit_or_rule, bit_xor_rule, bit_and_rule, equal_rule, rel_rule, shift_rule, add_rule, mul_rule, unary_rule, left_rule, primary_rule}
+use Rattle.js_grammar.specs.Script.{Rule, script, rules, any, optional, suffix, form, reaches, right, branches, relational, cond_rule, short_rule, or_rule, and_rule, bit_or_rule, bit_xor_rule, bit_and_rule, equal_rule, rel_rule, shift_rule, add_rule, mul_rule, unary_rule, left_rule, primary_rule}
 use Rattle.js_parse.specs.declared.symbol.Symbol.{Symbol}
 use Rattle.js_parse.specs.declared.symbol.Symbol.TheVariants as s
 use Rattle.js_parse.specs.Symbols.{of_kind, is_name}
 use Rattle.parse_laws.specs.Kinds.{token_kind, numbered}
-use Rattle.parse_laws.proofs.Guided.{Told, Was, Goes, done, called, wrong, many_of, guided, rule_at, guided-continues, taking}
-use Rattle.parse_laws.proofs.Walk.{language, ahead, rule, at_kind, kind-at, chosen-true, chosen-false, tables}
+use Rattle.parse_laws.proofs.Guided.{Was, Goes, done, called, guided, guided-continues}
+use Rattle.parse_laws.proofs.Walk.{language, ahead, rule, at_kind}
+use Rattle.parse_laws.proofs.Begun.{kind-at, chosen-true, chosen-false, tables}
 use Rattle.parse_laws.proofs.Nested.{parted}
 use Rattle.parse_laws.proofs.Operators
 use Rattle.parse_laws.proofs.Behind.{Rest, left_node, assign_kinds, stop_kinds}
 use Rattle.parse_laws.proofs.Behind
 use Rattle.parse_laws.proofs.Scripts.{end_kinds}
-use Rattle.parse_laws.proofs.Places.{EndsIn, Within, within-self, within-more, Stands, stands-more, stands-if, AllStand, guided-stands, rule-stands}
+use Rattle.parse_laws.proofs.Places.{Within, within-more, Stands, stands-more, stands-if, guided-stands, rule-stands}
 
 abbrev pub Read : Type 0
 Read = Tree Token × List Token

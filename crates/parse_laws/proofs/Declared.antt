@@ -22,7 +22,9 @@ use Rattle.parse_laws.specs.Trees as mk
 use Rattle.parse_laws.specs.Trees.{Parts, parts_at, place_in, symbol_in, first_token, first, second, under, Build}
 use Rattle.parse_laws.proofs.Guided.{guided, wrong}
 use Rattle.parse_laws.proofs.Sound.{vacant}
-use Rattle.parse_laws.proofs.Walk.{refusals, language, ahead, rule, told, built, Sim, step, eat-step, eat-need, sim-by, at_kind, kind-at, none-at_end, tables}
+use Rattle.parse_laws.proofs.Walk.{language, ahead, rule, told, built, Sim, step, eat-step, at_kind, none-at_end}
+use Rattle.parse_laws.proofs.Begun.{refusals, sim-by, kind-at, tables}
+use Rattle.parse_laws.proofs.Steps.{eat-need}
 use Rattle.parse_laws.proofs.Symbols
 use Rattle.parse_laws.proofs.Loops.{commas-loop, none-first}
 use Rattle.parse_laws.proofs.Parted.{Parted}

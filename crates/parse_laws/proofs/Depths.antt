@@ -1,23 +1,24 @@
 -- The brackets of both readings at each depth.
-use Rattle.std.proofs.Common.{inl, inr, true, false, Bool, ◌⊎◌, ◌≡◌, ℕ, zero, suc, ◌+◌, ◌≤◌, List, [], ◌∷◌, ◌++◌, length, Ok, Err, refl, ap, sym, subst, ◌∙◌, arith, codes}
+use Rattle.std.proofs.Common.{inl, inr, true, false, Bool, ◌≡◌, ℕ, zero, suc, List, ◌∷◌, length, Err, refl, ap, sym, subst, ◌∙◌, arith}
 use Rattle.std.proofs.lemmas.List.{append-nil}
-use Rattle.std.specs.Prelude.{if◌then◌else◌, ◌==◌}
-use Rattle.grammar.specs.Kinds.{among, apart, covers, and}
-use Rattle.grammar.specs.Grammar.{Tree, tip, leaf, pair, node, Grammar, empty, token, call, line, both, either, many, on, starts, entry}
+use Rattle.std.specs.Prelude.{if◌then◌else◌}
+use Rattle.grammar.specs.Kinds.{among}
+use Rattle.grammar.specs.Grammar.{Tree, tip, leaf, pair, node, line, starts}
 use Rattle.grammar.specs.Reading.{firsts, nullable}
 use Rattle.js_token.specs.declared.token.Token.{Token}
-use Rattle.js_grammar.specs.Script.{Rule, rules, always, optional, parameter, pattern_rule, array_rule, object_rule, element, property, pattern_member, is_parameter, has_parameter, parameter_list, parameters_rule, group_rule, expr_rule, assign_rule}
+use Rattle.js_grammar.specs.Script.{rules, always, parameter, pattern_rule, array_rule, object_rule, element, property, pattern_member, is_parameter, has_parameter, parameter_list, parameters_rule, group_rule, expr_rule, assign_rule}
 use Rattle.js_parse.specs.declared.fault.Fault.TheVariants as fault
 use Rattle.js_parse.specs.declared.symbol.Symbol.{Symbol}
 use Rattle.js_parse.specs.declared.symbol.Symbol.TheVariants as s
 use Rattle.js_parse.specs.Symbols.{of_kind, same}
-use Rattle.js_parse.specs.Input.{place_at}
 use Rattle.parse_laws.specs.Kinds.{token_kind, numbered}
-use Rattle.parse_laws.proofs.Guided.{Told, Was, Goes, done, called, wrong, too_far, many_of, guided, rule_at, guided-continues, taking}
-use Rattle.parse_laws.proofs.Walk.{language, ahead, rule, at_kind, kind-at, chosen-true, chosen-false, tables}
-use Rattle.parse_laws.proofs.Places.{EndsIn, Within, within-self, Stands, stands-more, stands-if, guided-stands, rule-stands}
-use Rattle.parse_laws.proofs.Covered.{Read, Placed, onward, onward-by}
-use Rattle.parse_laws.proofs.Lockstep.{Fine, fine-behind, Lock, Locks, bound}
+use Rattle.parse_laws.proofs.Guided.{Was, Goes, done, too_far, guided, rule_at, guided-continues}
+use Rattle.parse_laws.proofs.Walk.{language, ahead, rule, at_kind}
+use Rattle.parse_laws.proofs.Begun.{kind-at, chosen-true, chosen-false, tables}
+use Rattle.parse_laws.proofs.Places.{EndsIn, within-self, Stands, stands-more, stands-if}
+use Rattle.parse_laws.proofs.Covered.{Read, onward-by}
+use Rattle.parse_laws.proofs.Lockstep.{Fine, fine-behind, Lock}
+use Rattle.parse_laws.proofs.Operands.{Locks}
 use Rattle.parse_laws.proofs.Lists.{shut_by, shut-stands, wholly, listed-lock}
 use Rattle.parse_laws.proofs.Readings.{fine-next, shut_bracket, shut_brace, shut_paren, elements-paired, properties-paired}
 use Rattle.parse_laws.proofs.Headings.{one_x, more_x, comma_x, placed-one, placed-more, placed-comma, commas, params, shut-end, loop-stands, commas-dead, params-dead, param-turn, params-lock}

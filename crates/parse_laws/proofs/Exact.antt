@@ -1,26 +1,26 @@
 -- The place of a script's fault is exact.
-use Rattle.std.proofs.Common.{inl, inr, true, false, Bool, ◌⊎◌, ◌≡◌, ℕ, zero, suc, ◌≤◌, ◌<◌, List, [], ◌∷◌, ◌++◌, length, refl, ap, sym, subst, ◌∙◌, arith}
+use Rattle.std.proofs.lemmas.List.{append_assoc, append_cancel_right}
+use Rattle.std.proofs.lemmas.Bool.Decides.{leb_tells}
+use Rattle.std.proofs.Common.{inl, inr, true, false, Bool, ◌≡◌, ℕ, zero, suc, ◌≤◌, ◌<◌, List, [], ◌∷◌, ◌++◌, length, refl, ap, sym, subst, ◌∙◌, arith}
 use Rattle.std.specs.Prelude.{Ok, Err, if◌then◌else◌}
 use Rattle.grammar.specs.Kinds.{among, apart}
-use Rattle.grammar.specs.Grammar.{Tree, tip, leaf, pair, token, both, many, starts, entry, Viable, NoneGoesOn, Derives, Spells}
+use Rattle.grammar.specs.Grammar.{Tree, tip, leaf, pair, starts, entry, Viable, Derives, Spells}
 use Rattle.grammar.specs.Reading.{Answer, ◌>>=◌, firsts, nullable, token_at, many_at, read_at, read}
 use Rattle.grammar.specs.Tests.{InPlace}
-use Rattle.grammar.proofs.Sets.{off-apart, apart-tells, false_by, is_or_not, begun-surely}
-use Rattle.grammar.proofs.Complete.{in-place, spells-begun, derives-begun}
+use Rattle.grammar.proofs.Sets.{off-apart, is_or_not, begun-surely}
+use Rattle.grammar.proofs.Complete.{spells-begun, derives-begun}
 use Rattle.grammar.proofs.Limits.{exact-place}
-use Rattle.grammar.proofs.Pairs.{in-pairs}
 use Rattle.js_token.specs.declared.token.Token.{Token}
 use Rattle.js_token.specs.declared.token.TokenKind.TheVariants as kind
 use Rattle.js_tree.specs.Nodes.{Nodes}
 use Rattle.js_tree.specs.declared.node.NodeId.{NodeId}
 use Rattle.js_tree.specs.declared.node.Node.TheVariants as made
-use Rattle.js_grammar.specs.Script.{item, always, any, nesting, script, script_language, script_rule, rules, an_end, arrow_kinds}
-use Rattle.js_grammar.proofs.Tables.{tails, examples, parentheses}
+use Rattle.js_grammar.specs.Script.{item, always, any, nesting, script, script_language, script_rule, rules, arrow_kinds}
+use Rattle.js_grammar.proofs.Tables.{tails, examples}
 use Rattle.js_grammar.proofs.Passes.{script-fits, script-opens, script-apart}
 use Rattle.js_parse.specs.declared.fault.Fault.{Fault}
 use Rattle.js_parse.specs.declared.fault.Fault.TheVariants as fault
 use Rattle.js_parse.specs.declared.fault.ParseFault.{ParseFault}
-use Rattle.js_parse.specs.declared.fault.ParseFault.TheVariants as answer
 use Rattle.js_parse.specs.declared.symbol.Symbol.TheVariants as s
 use Rattle.js_parse.specs.Symbols.{same, of_kind}
 use Rattle.js_parse.specs.Ready.{symbol_of}
@@ -32,22 +32,29 @@ use Rattle.parse_laws.specs.Kinds.{token_kind}
 use Rattle.parse_laws.specs.Agreement.{FaultIs}
 use Rattle.parse_laws.specs.Trees as mk
 use Rattle.parse_laws.specs.Trees.{parts_at}
-use Rattle.parse_laws.proofs.Guided.{Told, Was, Goes, done, called, wrong, many_of, guided, rule_at, guided-continues, many-continues, taking, called_ok}
+use Rattle.parse_laws.proofs.Guided.{Was, Goes, done, called, wrong, many_of, guided, guided-continues, many-continues, taking, called_ok}
 use Rattle.parse_laws.proofs.Sound.{guided-finds, rule-finds}
-use Rattle.parse_laws.proofs.Walk.{language, language-fits, ahead, rule, told, built, chosen-true, chosen-false, not-begun, tables}
-use Rattle.parse_laws.proofs.Ahead.{follows, language-told}
+use Rattle.parse_laws.proofs.Walk.{language, language-fits, ahead, rule, built}
+use Rattle.parse_laws.proofs.Begun.{chosen-true, chosen-false, not-begun, tables}
+use Rattle.parse_laws.proofs.Ahead.{follows}
 use Rattle.parse_laws.proofs.Symbols.{end-agrees}
 use Rattle.parse_laws.proofs.Nested.{parted}
 use Rattle.parse_laws.proofs.Stated
-use Rattle.parse_laws.proofs.Followed.{stops, each-stops}
-use Rattle.parse_laws.proofs.Scripts.{end_kinds}
-use Rattle.parse_laws.proofs.Kindred.{AllSame, read-alike}
-use Rattle.parse_laws.proofs.Texts.{EndsSo, text-same, ends}
-use Rattle.parse_laws.proofs.Places.{EndsIn, Within, within-self, Ascends, Stands, fault_at, guided-stands, rule-stands, each-free}
+use Rattle.parse_laws.proofs.Followed.{stops}
+use Rattle.parse_laws.proofs.Scripts.{end_kinds, end-taken}
+use Rattle.parse_laws.proofs.Kindred.{read-alike}
+use Rattle.grammar.proofs.Local.{ends}
+use Rattle.grammar.proofs.Laws.{plus}
+use Rattle.grammar.proofs.Free.{free}
+use Rattle.parse_laws.proofs.Whole.{is-end}
+use Rattle.parse_laws.proofs.Texts.{EndsSo, text-same, ends as is_ended, no-end, last-one, wholly, is-derived}
+use Rattle.parse_laws.proofs.Places.{EndsIn, Within, Ascends, ends-order, Stands, fault_at, Past, fault_place, guided-stands, rule-stands}
 use Rattle.parse_laws.proofs.Covered.{Read, Placed}
-use Rattle.parse_laws.proofs.Lockstep.{Fine, fine-behind}
-use Rattle.parse_laws.proofs.Agreed.{Agrees, not-both, err-same}
-use Rattle.parse_laws.proofs.Faults.{hangs, hanging, still, guided-agrees, many-agrees, rule-agrees}
+use Rattle.parse_laws.proofs.Lockstep.{Fine}
+use Rattle.parse_laws.proofs.Agreed.{Agrees, not-both, err-same, fault-placed as fault-placed_at}
+use Rattle.parse_laws.proofs.Deeply.{guided-grown, many-grown, rule-grown}
+use Rattle.parse_laws.proofs.Hanging.{Forks, hangs, still}
+use Rattle.parse_laws.proofs.Faults.{guided-agrees, many-agrees, rule-agrees}
 
 module _ (depth : ℕ) where
   abbrev pub item_test : ℕ → Bool
@@ -133,7 +140,7 @@ module _ (depth : ℕ) where
     r = read language limit depth
 
     pub item-agrees : (ts : List Token) → Fine ts → length ts < limit → Agrees (hangs item) ts (guided language ahead (rule depth) item ts done) (read_at language limit r item ts)
-    unfolding InPlace rules entry Rattle.grammar.specs.Tests.decided Rattle.grammar.specs.Pairs.told stops Rattle.grammar.proofs.Free.free still Rattle.parse_laws.proofs.Faults.Forks
+    unfolding InPlace rules entry Rattle.grammar.specs.Tests.decided Rattle.grammar.specs.Pairs.told stops Rattle.grammar.proofs.Free.free still Forks
     item-agrees ts f small = guided-agrees limit depth (rule-agrees limit depth) item refl refl refl refl refl refl tt ts f small
 
     pub items-off : (m : List Token) → starts language (among arrow_kinds) m ≡ true → starts language item_test m ≡ false
@@ -194,16 +201,130 @@ module _ (depth : ℕ) where
 -- ---- texts
 
 pub ends-in : (front : List Token) (t : Token) → t.kind ≡ kind.End → EndsIn (front ++ t ∷ [])
-ends-in [] t e = inl (ends t e)
+ends-in [] t e = inl (is_ended t e)
 ends-in (u ∷ front) t e = inr (ends-in front t e)
 
-pub fault-placed : (tokens left : List Token) (d s : Bool) → Within tokens left → read script_language (suc (length tokens)) (suc nesting) script tokens ≡ Err (d, left)
-    → FaultIs tokens (fault_shown (fault_at d s left))
-fault-placed tokens [] d s w e = absurd w.2
-fault-placed tokens (t ∷ rest) true s w e =
+-- ---- where parts may nest deeper
+
+abbrev pub told : Tree Token → Tree Token → Tree Token
+told a b = pair a b
+
+abbrev pub listed : ℕ → List Token → Was Token
+listed depth ts = many_of language (item_test depth) always (guided language ahead (rule depth) item) (length ts) ts done
+
+pub item-free : free end_kinds script item ≡ true
+unfolding free
+item-free = refl
+
+pub by-parts : (depth : ℕ) (ts : List Token) → items depth (length ts) ts told ≡ called (listed depth ts) (λ d r. taking language end_kinds r (λ c q. done (told d c) q))
+by-parts depth ts = many-continues language Read (item_test depth) always g g con con (length ts) ts (λ d r. taking language end_kinds r (λ c q. done (told d c) q))
+  where
+    g : List Token → Goes Token Read → Was Token
+    g = guided language ahead (rule depth) item
+
+    con : (us : List Token) (k : Goes Token Read) → g us k ≡ called (g us done) k
+    con us k = guided-continues language ahead (rule depth) Read item us k
+
+-- A level too deep was among the items.
+pub deep-among : (depth : ℕ) (ts : List Token) (a : ℕ) → items depth (length ts) ts told ≡ Err (fault.Deep a) → listed depth ts ≡ Err (fault.Deep a)
+deep-among depth ts a e = by (listed depth ts) refl (sym (by-parts depth ts) ∙ e)
+  where
+    by : (w : Was Token) → listed depth ts ≡ w → called w (λ d r. taking language end_kinds r (λ c q. done (told d c) q)) ≡ Err (fault.Deep a) → listed depth ts ≡ Err (fault.Deep a)
+    by (Err f) q e = q ∙ e
+    by (Ok p) q e = absurd (let k = (closes depth 0 told p.0 p.1 (fault.Deep a) e).0 in cc (k))
+
+-- Two levels more are enough for its token.
+pub deeper-past : (depth : ℕ) (ts : List Token) (a : ℕ) → Fine ts → items depth (length ts) ts told ≡ Err (fault.Deep a) → Past (suc a) (listed (plus 2 depth) ts)
+unfolding InPlace rules entry free Forks
+deeper-past depth ts a f e =
+    let low = deep-among depth ts a e in
+    elim (many-grown depth (plus 2 depth) (rule-grown depth) (item_test depth) always item (item-placed depth).0 item-free (guided-grown depth (plus 2 depth) (rule-grown depth) item refl refl tt) (length ts) ts f) [
+      | inl k ↦ not-both (fault.Deep a) k.0 (listed depth ts) low k.1
+      | inr k ↦ elim k [
+        | inl k ↦ absurd (let q = err-same (fault.Deep a) (fault.Token k.0 k.1) (listed depth ts) low k.2 in cc (q))
+        | inr k ↦
+            let q : fault.Deep a ≡ fault.Deep k.0 = err-same (fault.Deep a) (fault.Deep k.0) (listed depth ts) low k.1 in
+            let same : a ≡ k.0 = ap (λ e. fault_place e) q in
+            subst (λ n. Past (suc n) (listed (plus 2 depth) ts)) (sym same) k.2
+      ]
+    ]
+
+pub fault-past : (depth : ℕ) (ts : List Token) (p : ℕ) (e : Fault) → Past p (listed depth ts) → items depth (length ts) ts told ≡ Err e → p ≤ fault_place e
+fault-past depth ts p e past q = by (listed depth ts) past (sym (by-parts depth ts) ∙ q)
+  where
+    by : (w : Was Token) → Past p w → called w (λ d r. taking language end_kinds r (λ c q. done (told d c) q)) ≡ Err e → p ≤ fault_place e
+    by (Err f) past q = let same : f ≡ e = cc (q) in subst (λ e. p ≤ fault_place e) same past
+    by (Ok r) past q = subst (λ e. p ≤ fault_place e) (sym (closes depth 0 told r.0 r.1 e q).0) past
+
+-- a script of the whole, where its items are read
+pub whole-derived : (depth : ℕ) (tokens : List Token) (p : Read) → EndsSo tokens → items depth (length tokens) tokens told ≡ Ok p → (tree : Tree Token) × Derives script_language (suc depth) script tokens [] tree
+unfolding guided token_kind
+whole-derived depth tokens p w e =
+    let k = called_ok (listed depth tokens) _ p (sym (by-parts depth tokens) ∙ e) in
+    let d : Spells language (Derives language depth) (any item) tokens (k.0).1 (k.0).0 =
+    guided-finds language ahead (rule depth) (Derives language depth) (rule-finds language ahead depth) (any item) tokens k.0 k.1 in
+    let t = end-taken (k.0).1 (λ c. told (k.0).0 c) p k.2 in
+    let f = no-end depth tokens (k.0).1 (k.0).0 d in
+    let ended : symbol_of (k.0).1 ≡ s.End = ap (λ l. symbol_of l) t.1 ∙ is-end (of_kind (t.0).kind) t.2 in
+    let last = last-one w.0 f.0 (k.0).1 w.1 (sym w.2 ∙ f.1) w.3 f.2 ended w.4 in
+    let tree = pair (k.0).0 (leaf w.1) in
+    (tree, is-derived (suc depth) tokens tree (text-same tokens w) (wholly depth tokens (k.0).0 w.1 (k.0).1 d last w.4))
+
+-- Some script goes on with the token at which the fault of nesting is.
+pub token-viable : (tokens front rest left more_front : List Token) (t : Token) → Ascends tokens → tokens ≡ front ++ t ∷ rest → Within tokens (t ∷ rest) → tokens ≡ more_front ++ left → Within tokens left
+    → place_at (t ∷ rest) < place_at left → Viable script_language script more_front → Viable script_language script (front ++ t ∷ [])
+unfolding Viable
+token-viable tokens front rest left more_front t up e w i v less g =
+    let shorter : length left ≤ length (t ∷ rest) = elim (leb_tells (length left) (length (t ∷ rest))) [
+      | inl h ↦ h.1
+      | inr h ↦ elim (ends-order tokens (t ∷ rest) left up w v (omega (arith, h.1))) [
+        | inl k ↦ absurd (let same : place_at (t ∷ rest) ≡ place_at left = ap (λ l. place_at l) k in omega (arith, same, less))
+        | inr k ↦ absurd (omega (arith, k, less))
+      ]
+    ] in
+    let k = ends more_front front left (t ∷ rest) tokens i e shorter in
+    by k.0 k.1
+  where
+    by : (f : List Token) → t ∷ rest ≡ f ++ left → Viable script_language script (front ++ t ∷ [])
+    by [] q = absurd (let same : place_at (t ∷ rest) ≡ place_at left = ap (λ l. place_at l) q in omega (arith, same, less))
+    by (u ∷ f) q =
+        let first : t ≡ u = cc (q) in
+        let whole : more_front ++ left ≡ (front ++ u ∷ f) ++ left = sym i ∙ e ∙ ap (λ l. front ++ l) q ∙ sym (append_assoc front (u ∷ f) left) in
+        let same : more_front ≡ front ++ u ∷ f = append_cancel_right more_front (front ++ u ∷ f) left whole in
+        let moved : more_front ++ g.1 ≡ (front ++ t ∷ []) ++ (f ++ g.1) =
+        ap (λ l. l ++ g.1) same ∙ append_assoc front (u ∷ f) g.1 ∙ ap (λ u. front ++ u ∷ (f ++ g.1)) (sym first) ∙ sym (append_assoc front (t ∷ []) (f ++ g.1)) in
+        (g.0, f ++ g.1, g.2, subst (λ l. Derives script_language g.0 script l [] g.2) moved g.3)
+
+pub deep-viable : (tokens front rest : List Token) (t : Token) → EndsSo tokens → Fine tokens → tokens ≡ front ++ t ∷ rest → Within tokens (t ∷ rest)
+    → items nesting (length tokens) tokens told ≡ Err (fault.Deep t.place) → Viable script_language script (front ++ t ∷ [])
+unfolding Viable
+deep-viable tokens front rest t w f e i q = by (items (plus 2 nesting) (length tokens) tokens told) refl
+  where
+    past : Past (suc t.place) (listed (plus 2 nesting) tokens)
+    past = deeper-past nesting tokens t.place f q
+
+    by : (v : Was Token) → items (plus 2 nesting) (length tokens) tokens told ≡ v → Viable script_language script (front ++ t ∷ [])
+    by (Ok p) o =
+        let k = whole-derived (plus 2 nesting) tokens p w o in
+        let moved : tokens ≡ (front ++ t ∷ []) ++ rest = e ∙ sym (append_assoc front (t ∷ []) rest) in
+        (suc (plus 2 nesting), rest, k.0, subst (λ l. Derives script_language (suc (plus 2 nesting)) script l [] k.0) moved k.1)
+    by (Err c) o =
+        let limit = suc (length tokens) in
+        let k = script-faulted (plus 2 nesting) limit tokens told c f (omega arith) o in
+        let one : read script_language limit (suc (plus 2 nesting)) script tokens ≡ Err (k.0, k.2) =
+        read-alike limit (suc (plus 2 nesting)) script tokens (text-same tokens w) ∙ k.3 in
+        let x = exact-place script_language (entry [] tails) script-fits examples script-opens script-apart limit (suc (plus 2 nesting)) script (omega arith) tokens (k.0, k.2) (omega arith) one in
+        let far : suc t.place ≤ fault_place c = fault-past (plus 2 nesting) tokens (suc t.place) c past o in
+        let at : fault_place c ≡ place_at k.2 = ap (λ e. fault_place e) k.4 ∙ fault-placed_at k.0 k.1 k.2 in
+        token-viable tokens front rest k.2 x.0 t f.0 e i x.1 k.5 (omega (arith, far, at)) x.2
+
+pub fault-placed : (tokens left : List Token) (d s : Bool) → EndsSo tokens → Fine tokens → Within tokens left → items nesting (length tokens) tokens told ≡ Err (fault_at d s left)
+    → read script_language (suc (length tokens)) (suc nesting) script tokens ≡ Err (d, left) → FaultIs tokens (fault_shown (fault_at d s left))
+fault-placed tokens [] d s v f w q e = absurd w.2
+fault-placed tokens (t ∷ rest) true s v f w q e =
     let x = exact-place script_language (entry [] tails) script-fits examples script-opens script-apart (suc (length tokens)) (suc nesting) script (omega arith) tokens (true, t ∷ rest) (omega arith) e in
-    (x.0, t, rest, x.1, refl, x.2, x.3)
-fault-placed tokens (t ∷ rest) false s w e =
+    (x.0, t, rest, x.1, refl, x.2, (x.3, deep-viable tokens x.0 rest t v f x.1 w q))
+fault-placed tokens (t ∷ rest) false s v f w q e =
     let x = exact-place script_language (entry [] tails) script-fits examples script-opens script-apart (suc (length tokens)) (suc nesting) script (omega arith) tokens (false, t ∷ rest) (omega arith) e in
     (x.0, t, rest, x.1, refl, x.2, x.4 refl)
 
@@ -219,9 +340,9 @@ text-faults tokens f w up e = by (st.items_from (part_at nesting) s.End (length 
         → shown (and_then o (λ found. add (made.Script found) (place_at tokens))) ≡ Err f → FaultIs tokens f
     by (Ok v) q e = absurd (cc (e))
     by (Err c) q e =
-        let k = script-faulted nesting (suc (length tokens)) tokens (λ a b. pair a b) c fine (omega arith)
-        (items-told nesting (length tokens) tokens [] [] (λ a b. pair a b) c fine.1 (omega arith) q) in
+        let among_items = items-told nesting (length tokens) tokens [] [] told c fine.1 (omega arith) q in
+        let k = script-faulted nesting (suc (length tokens)) tokens told c fine (omega arith) among_items in
         let one : read script_language (suc (length tokens)) (suc nesting) script tokens ≡ Err (k.0, k.2) =
         read-alike (suc (length tokens)) (suc nesting) script tokens (text-same tokens w) ∙ k.3 in
         let same : fault_shown (fault_at k.0 k.1 k.2) ≡ f = let p : fault_shown c ≡ f = cc (e) in ap (λ c. fault_shown c) (sym k.4) ∙ p in
-        subst (FaultIs tokens) same (fault-placed tokens k.2 k.0 k.1 k.5 one)
+        subst (FaultIs tokens) same (fault-placed tokens k.2 k.0 k.1 w fine k.5 (among_items ∙ ap (λ c. Err c) k.4) one)

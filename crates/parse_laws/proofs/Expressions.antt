@@ -26,7 +26,9 @@ use Rattle.parse_laws.specs.Trees as mk
 use Rattle.parse_laws.specs.Trees.{first_token, Parts, parts_at, place_in, symbol_in, first, second, under, Build}
 use Rattle.parse_laws.proofs.Guided.{guided, many_of, Goes, Was, called, done, wrong}
 use Rattle.parse_laws.proofs.Sound.{vacant}
-use Rattle.parse_laws.proofs.Walk.{language, ahead, rule, told, built, Sim, step, step-so, step-same, step-shown, goes-so, starts-neither, behind-new, open_kinds, at_kind, sim-by, sim-by-at, dispatch, dispatch-or, step-any_name, at-first, none-at_end, assoc, tables}
+use Rattle.parse_laws.proofs.Walk.{language, ahead, rule, told, built, Sim, step, step-so, goes-so, at_kind, at-first, none-at_end}
+use Rattle.parse_laws.proofs.Begun.{sim-by, dispatch, tables}
+use Rattle.parse_laws.proofs.Steps.{step-same, step-shown, starts-neither, behind-new, open_kinds, sim-by-at, dispatch-or, step-any_name, assoc}
 use Rattle.parse_laws.proofs.Loops.{none-first}
 use Rattle.parse_laws.proofs.Parted.{Parted}
 

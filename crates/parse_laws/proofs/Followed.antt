@@ -1,9 +1,9 @@
 -- What the reader of the grammar reads, the reader that goes by what stands ahead reads too.
-use Rattle.std.proofs.Common.{inl, inr, true, false, Bool, ◌⊎◌, ◌≡◌, ℕ, zero, suc, ◌≤◌, ◌<◌, List, [], ◌∷◌, length, Ok, Err, refl, ap, sym, subst, ◌∙◌, arith}
+use Rattle.std.proofs.Common.{inl, inr, true, false, Bool, ◌≡◌, ℕ, zero, suc, ◌≤◌, ◌<◌, List, [], ◌∷◌, length, Ok, Err, refl, ap, sym, subst, ◌∙◌, arith}
 use Rattle.std.specs.Prelude.{if◌then◌else◌}
 use Rattle.grammar.specs.Kinds.{among, apart, covers, alike, and, not}
 use Rattle.grammar.specs.Grammar.{Tree, tip, leaf, pair, node, Grammar, empty, token, call, line, both, either, fork, many, named, prefer, starting, on, Derives, Spells, starts, entry}
-use Rattle.grammar.specs.Reading.{Answer, ◌>>=◌, nullable, firsts, furthest, perhaps, choose, refused, many_at, read_at, read}
+use Rattle.grammar.specs.Reading.{Answer, ◌>>=◌, nullable, firsts, perhaps, choose, refused, many_at, read_at, read}
 use Rattle.grammar.specs.Tests.{decided, goes_on, InPlace}
 use Rattle.grammar.specs.Pairs.{told, leads, alone, before_stop}
 use Rattle.grammar.proofs.Sets.{and_both, not_true, test_was, begun-surely, at-covered}
@@ -11,11 +11,12 @@ use Rattle.grammar.proofs.Laws.{bind_ok, same_ok, chosen, perhaps_ok, fork_ok, r
 use Rattle.grammar.proofs.Complete.{in-place, spells-begun, derives-begun}
 use Rattle.grammar.proofs.Pairs.{in-pairs}
 use Rattle.js_token.specs.declared.token.Token.{Token}
-use Rattle.js_grammar.specs.Kinds.{names, reserved, kinds, unbroken_kinds, place_in, marks, words, contextual}
+use Rattle.js_grammar.specs.Kinds.{kinds}
 use Rattle.js_grammar.specs.Script.{rules, arrow_kinds, pattern_rule, primary_rule, member_rule, left_rule, unary_rule, mul_rule, add_rule, shift_rule, rel_rule, equal_rule, bit_and_rule, bit_xor_rule, bit_or_rule, and_rule, or_rule, short_rule, cond_rule, assign_rule, expr_rule, arrow_rule, prefixed_rule, new_rule, group_rule, index_rule, computed_rule, array_rule, arguments_rule, template_rule, object_rule, function_rule, declared_rule, parameters_rule, no_parameters_rule, one_parameter_rule, stmt_rule, item_rule, block_rule, for_rule, script_rule}
 use Rattle.js_grammar.proofs.Tables.{parentheses}
-use Rattle.parse_laws.proofs.Guided.{Told, Was, Goes, done, called, first_of, forked, opens_next, taking, many_of, guided, rule_at, many-continues, guided-continues}
-use Rattle.parse_laws.proofs.Walk.{language, language-fits, ahead, rule, tables}
+use Rattle.parse_laws.proofs.Guided.{Told, Was, Goes, done, called, first_of, forked, opens_next, many_of, guided, rule_at, many-continues, guided-continues}
+use Rattle.parse_laws.proofs.Walk.{language, language-fits, ahead, rule}
+use Rattle.parse_laws.proofs.Begun.{tables}
 use Rattle.parse_laws.proofs.Ahead.{follows, language-told, first-ahead, second-ahead}
 
 -- ---- each fork is one before an arrow, and begins as its first part does

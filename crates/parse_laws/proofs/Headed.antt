@@ -25,7 +25,9 @@ use Rattle.parse_laws.specs.Trees as mk
 use Rattle.parse_laws.specs.Trees.{Parts, parts_at, place_in, symbol_in, first_token, first, second, under, Build}
 use Rattle.parse_laws.proofs.Guided.{taking, guided, Goes, done, wrong}
 use Rattle.parse_laws.proofs.Sound.{vacant, read-front}
-use Rattle.parse_laws.proofs.Walk.{Only, not-begun, language, ahead, rule, told, built, Sim, step, step+, step-same, step-expect, eat-or, sim-by-at, at_kind, at-kind, kind-at, sees-starts, goes-so, none-at_end, assoc, each-takes, tables}
+use Rattle.parse_laws.proofs.Walk.{Only, language, ahead, rule, told, built, Sim, step, step+, step-expect, eat-or, at_kind, goes-so, none-at_end, each-takes}
+use Rattle.parse_laws.proofs.Begun.{not-begun, at-kind, kind-at, tables}
+use Rattle.parse_laws.proofs.Steps.{step-same, sim-by-at, sees-starts, assoc}
 use Rattle.parse_laws.proofs.Symbols
 use Rattle.parse_laws.proofs.Loops.{none-first}
 use Rattle.parse_laws.proofs.Parted.{Parted}

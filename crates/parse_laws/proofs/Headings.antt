@@ -1,30 +1,28 @@
 -- A parenthesis and parameters, and the brackets of each depth.
-use Rattle.std.proofs.Common.{inl, inr, true, false, Bool, ◌⊎◌, ◌≡◌, ℕ, zero, suc, ◌+◌, ◌≤◌, ◌<◌, List, [], ◌∷◌, ◌++◌, length, Ok, Err, refl, ap, sym, subst, ◌∙◌, arith, codes}
-use Rattle.std.proofs.lemmas.List.{length-append, append-nil}
-use Rattle.std.specs.Prelude.{if◌then◌else◌, ◌==◌}
-use Rattle.grammar.specs.Kinds.{among, apart, covers, and}
-use Rattle.grammar.specs.Grammar.{Tree, tip, leaf, pair, node, Grammar, empty, token, call, line, both, either, fork, many, named, prefer, starting, on, starts, entry}
+use Rattle.std.proofs.Common.{inl, inr, true, false, Bool, ◌≡◌, ℕ, zero, suc, ◌≤◌, List, [], ◌∷◌, ◌++◌, length, Err, refl, ap, sym, subst, ◌∙◌, arith, codes}
+use Rattle.std.proofs.lemmas.List.{append-nil}
+use Rattle.std.specs.Prelude.{if◌then◌else◌}
+use Rattle.grammar.specs.Kinds.{among, apart, covers}
+use Rattle.grammar.specs.Grammar.{Tree, tip, leaf, pair, token, line, both, either, starts, entry}
 use Rattle.grammar.specs.Reading.{firsts, nullable}
 use Rattle.grammar.specs.Tests.{InPlace}
 use Rattle.grammar.proofs.Sets.{off-apart, at-covered, off-covered, is_or_not}
 use Rattle.grammar.proofs.Free.{free}
 use Rattle.js_token.specs.declared.token.Token.{Token}
-use Rattle.js_grammar.specs.Kinds.{kinds, mark, name, names, reserved, text, number}
-use Rattle.js_grammar.specs.Script.{Rule, script, rules, any, always, optional, bind, default, parameter, pattern_rule, array_rule, object_rule, element, property, pattern_member, listed, rest_parameter, is_parameter, has_parameter, parameter_list, parameters_rule, group_rule, expr, expr_rule, assign_rule}
-use Rattle.js_parse.specs.declared.symbol.Symbol.{Symbol}
-use Rattle.js_parse.specs.declared.symbol.Symbol.TheVariants as s
-use Rattle.js_parse.specs.Symbols.{of_kind, is_name, same}
-use Rattle.js_parse.specs.Input.{place_at}
-use Rattle.parse_laws.specs.Kinds.{token_kind, numbered}
-use Rattle.parse_laws.proofs.Guided.{Told, Was, Goes, done, called, wrong, too_far, many_of, guided, rule_at, guided-continues, many-continues, taking}
-use Rattle.parse_laws.proofs.Sound.{vacant}
-use Rattle.parse_laws.proofs.Walk.{language, ahead, rule, at_kind, kind-at, chosen-true, chosen-false, not-begun, tables}
+use Rattle.js_grammar.specs.Kinds.{kinds, mark}
+use Rattle.js_grammar.specs.Script.{Rule, rules, always, optional, bind, parameter, rest_parameter, has_parameter, assign_rule}
+use Rattle.parse_laws.specs.Kinds.{token_kind}
+use Rattle.parse_laws.proofs.Guided.{Was, Goes, done, called, wrong, many_of, guided, guided-continues, many-continues}
+use Rattle.parse_laws.proofs.Walk.{language, ahead, rule}
+use Rattle.parse_laws.proofs.Begun.{chosen-true, chosen-false, not-begun, tables}
+use Rattle.parse_laws.proofs.Steps.{starts-neither}
 use Rattle.parse_laws.proofs.Scripts.{end_kinds}
-use Rattle.parse_laws.proofs.Places.{EndsIn, Within, within-self, within-more, Ascends, ascends-behind, Stands, stands-more, stands-then, stands-if, many-stand, guided-stands, rule-stands, Past, stands-past, behind-other}
+use Rattle.parse_laws.proofs.Places.{EndsIn, Within, within-self, Stands, stands-more, stands-if, many-stand, guided-stands, rule-stands, stands-past, behind-other}
 use Rattle.parse_laws.proofs.Covered.{Read, Placed, onward, onward-by}
-use Rattle.parse_laws.proofs.Lockstep.{Fine, fine-behind, Lock, Open, follow_kinds, Onward, open-then, stands-onward, Locks, member-open, bound, assigned, defaulted, placed-assign, placed-bind}
-use Rattle.parse_laws.proofs.Lists.{comma_kinds, comma-no_end, shut_by, shut-lock, shut-none, shut-stands, within-short, reads, wholly, listed-lock}
-use Rattle.parse_laws.proofs.Readings.{fine-next, shut_bracket, shut_brace, shut_paren, dots, no-dots, placed-parameter, elements-paired, properties-paired}
+use Rattle.parse_laws.proofs.Lockstep.{Fine, fine-behind, Lock, follow_kinds, open-then, stands-onward}
+use Rattle.parse_laws.proofs.Operands.{Locks, member-open, bound, assigned, placed-assign}
+use Rattle.parse_laws.proofs.Lists.{comma_kinds, comma-no_end, shut_by, shut-lock, shut-none, shut-stands, within-short}
+use Rattle.parse_laws.proofs.Readings.{shut_paren, no-dots, placed-parameter}
 
 abbrev pub one_x : Rule
 one_x = either rest_parameter parameter
@@ -71,7 +69,7 @@ one-off m e o = (by m e o, off-covered language refused shut_paren m refl o)
   where
     by : (m : List Token) → starts language (among (firsts language.heads bind)) m ≡ false → starts language (among refused) m ≡ false
         → starts language (among (firsts language.heads one_x)) m ≡ false
-    by m e o = off-covered language (firsts language.heads bind ++ refused) (firsts language.heads one_x) m refl (Rattle.parse_laws.proofs.Walk.starts-neither (firsts language.heads bind) refused m e o)
+    by m e o = off-covered language (firsts language.heads bind ++ refused) (firsts language.heads one_x) m refl (starts-neither (firsts language.heads bind) refused m e o)
 
 module _ (depth : ℕ) where
   -- expressions, and parameters, behind a first

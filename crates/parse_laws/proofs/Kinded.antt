@@ -1,24 +1,19 @@
 -- The kinds of tokens by their symbols are those that the grammar of scripts tells apart.
-use Rattle.std.proofs.Common.{inl, inr, true, false, Bool, ◌⊎◌, ◌≡◌, ℕ, zero, suc, ◌+◌, ◌*◌, ◌<◌, ◌≤◌, List, [], ◌∷◌, ◌++◌, length, refl, ap, sym, subst, ◌∙◌, arith, codes}
-use Rattle.std.proofs.lemmas.List.{get_or_past}
-use Rattle.std.specs.Prelude.{if◌then◌else◌, ◌==◌, nat_lt, nat_eq, Option, Some, None, slice_index_or, eqb}
+use Rattle.std.proofs.Common.{inl, inr, true, false, Bool, ◌≡◌, ℕ, zero, suc, ◌+◌, ◌*◌, ◌<◌, List, [], ◌∷◌, length, refl, ap, sym, subst, ◌∙◌, arith, codes}
+use Rattle.std.specs.Prelude.{if◌then◌else◌, ◌==◌, nat_eq, None, slice_index_or}
 use Rattle.std.specs.Cmp.Lexicographic.{pointwise, bytes_decides}
-use Rattle.grammar.specs.Kinds.{among, alike, and}
-use Rattle.grammar.specs.Grammar.{Tree, tip, leaf, pair, node, Grammar, empty, token, call, line, both, either, fork, many, named, prefer, starting, on, Language, Relation, Chain, Derives, Spells, starts, entry}
-use Rattle.grammar.specs.Tests.{InPlace}
+use Rattle.grammar.specs.Kinds.{alike}
+use Rattle.grammar.specs.Grammar.{entry}
 use Rattle.grammar.proofs.Laws.{rows}
-use Rattle.grammar.proofs.Sets.{and_both, test_was, is_or_not, false_by}
+use Rattle.grammar.proofs.Sets.{test_was, is_or_not, false_by}
 use Rattle.js_token.specs.declared.token.Token.{Token}
 use Rattle.js_token.specs.declared.token.TokenKind.{TokenKind}
 use Rattle.js_token.specs.declared.token.TokenKind.TheVariants as kind
-use Rattle.js_grammar.specs.Kinds.{kind_of, class_of, kinds, unbroken_kinds, names, reserved, place_in, marks as mark_texts, words, contextual}
-use Rattle.js_grammar.specs.Script.{rules, script_language, pattern_rule, primary_rule, member_rule, left_rule, unary_rule, mul_rule, add_rule, shift_rule, rel_rule, equal_rule, bit_and_rule, bit_xor_rule, bit_or_rule, and_rule, or_rule, short_rule, cond_rule, assign_rule, expr_rule, arrow_rule, prefixed_rule, new_rule, group_rule, index_rule, computed_rule, array_rule, arguments_rule, template_rule, object_rule, function_rule, declared_rule, parameters_rule, no_parameters_rule, one_parameter_rule, stmt_rule, item_rule, block_rule, for_rule, script_rule}
-use Rattle.js_grammar.proofs.Passes.{script-fits}
+use Rattle.js_grammar.specs.Kinds.{kind_of, class_of, place_in, words, contextual}
 use Rattle.js_parse.specs.declared.symbol.Symbol.{Symbol}
 use Rattle.js_parse.specs.declared.symbol.Symbol.TheVariants as s
-use Rattle.js_parse.specs.Symbols.{of_kind, of_word, of_name, of_mark, marks, or_else, jump_word, control_word, value_word, operator_word}
-use Rattle.parse_laws.specs.Kinds.{token_kind, numbered, class}
-use Rattle.parse_laws.proofs.Ahead.{plain-at}
+use Rattle.js_parse.specs.Symbols.{of_kind, of_word, of_name, of_mark, marks, jump_word, control_word, value_word, operator_word}
+use Rattle.parse_laws.specs.Kinds.{token_kind, class}
 
 -- ---- words
 

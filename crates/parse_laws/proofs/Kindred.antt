@@ -1,11 +1,11 @@
 -- What is a script by the kinds of tokens that the grammar tells apart is one by the tokens' symbols.
-use Rattle.std.proofs.Common.{inl, inr, true, false, Bool, ◌⊎◌, ◌≡◌, ◌^◌, ℕ, zero, suc, ◌<◌, ◌≤◌, List, [], ◌∷◌, ◌++◌, length, Ok, Err, refl, ap, sym, subst, ◌∙◌, arith}
+use Rattle.std.proofs.Common.{inl, inr, true, false, Bool, ◌≡◌, ℕ, zero, suc, ◌<◌, List, [], ◌∷◌, ◌++◌, Ok, Err, refl, ap, sym, subst, ◌∙◌, arith}
 use Rattle.std.proofs.lemmas.List.{append-nil}
 use Rattle.std.proofs.lemmas.Bool.{ltb-true}
 use Rattle.std.specs.Prelude.{if◌then◌else◌, nat_lt}
 use Rattle.grammar.specs.Kinds.{among, and}
 use Rattle.grammar.specs.Grammar.{Tree, tip, leaf, pair, node, Grammar, empty, token, call, line, both, either, fork, many, named, prefer, starting, on, Relation, Chain, Derives, Spells, starts, entry}
-use Rattle.grammar.specs.Reading.{Answer, ◌>>=◌, firsts, furthest, perhaps, choose, token_at, refused, many_at, read_at, read}
+use Rattle.grammar.specs.Reading.{Answer, ◌>>=◌, firsts, furthest, choose, refused, many_at, read_at, read}
 use Rattle.grammar.specs.Tests.{InPlace}
 use Rattle.grammar.proofs.Laws.{rows, read_at-sound, read-sound, second, turn}
 use Rattle.grammar.proofs.Sets.{and_both, test_was}
@@ -13,8 +13,7 @@ use Rattle.grammar.proofs.Fronts.{spells-front, derives-front}
 use Rattle.grammar.proofs.Limits.{bind-agree, perhaps-agree, choose-agree}
 use Rattle.js_token.specs.declared.token.Token.{Token}
 use Rattle.js_grammar.specs.Kinds.{kind_of, kinds, unbroken_kinds, names, reserved, place_in, marks, words, contextual}
-use Rattle.js_grammar.specs.Script.{rules, script_language, script, nesting, pattern_rule, primary_rule, member_rule, left_rule, unary_rule, mul_rule, add_rule, shift_rule, rel_rule, equal_rule, bit_and_rule, bit_xor_rule, bit_or_rule, and_rule, or_rule, short_rule, cond_rule, assign_rule, expr_rule, arrow_rule, prefixed_rule, new_rule, group_rule, index_rule, computed_rule, array_rule, arguments_rule, template_rule, object_rule, function_rule, declared_rule, parameters_rule, no_parameters_rule, one_parameter_rule, stmt_rule, item_rule, block_rule, for_rule, script_rule}
-use Rattle.js_grammar.specs.Scripts.{IsScript, read_script}
+use Rattle.js_grammar.specs.Script.{rules, script_language, pattern_rule, primary_rule, member_rule, left_rule, unary_rule, mul_rule, add_rule, shift_rule, rel_rule, equal_rule, bit_and_rule, bit_xor_rule, bit_or_rule, and_rule, or_rule, short_rule, cond_rule, assign_rule, expr_rule, arrow_rule, prefixed_rule, new_rule, group_rule, index_rule, computed_rule, array_rule, arguments_rule, template_rule, object_rule, function_rule, declared_rule, parameters_rule, no_parameters_rule, one_parameter_rule, stmt_rule, item_rule, block_rule, for_rule, script_rule}
 use Rattle.js_grammar.proofs.Passes.{script-fits}
 use Rattle.parse_laws.proofs.Walk.{language}
 use Rattle.parse_laws.proofs.Kinded.{Low, Same, low-same}

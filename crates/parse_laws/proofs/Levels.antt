@@ -8,7 +8,7 @@ use Rattle.js_parse.specs.declared.symbol.Symbol.TheVariants as s
 use Rattle.js_parse.specs.Symbols.{same}
 use Rattle.js_parse.specs.Operators.{infix_at, infix_of}
 use Rattle.parse_laws.specs.Kinds.{numbered}
-use Rattle.parse_laws.proofs.Walk.{tables}
+use Rattle.parse_laws.proofs.Begun.{tables}
 use Rattle.parse_laws.proofs.Loops.{Joins, Level}
 
 pub joins-1 : (allow_in : Bool) (symbol : Symbol) (broken : Bool) → Joins (infix_at 1 allow_in symbol) (infix_of symbol) (among (kinds (mark (codes "*") ∷ mark (codes "/") ∷ mark (codes "%") ∷ [])) (numbered symbol broken))

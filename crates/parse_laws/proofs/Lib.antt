@@ -1,6 +1,8 @@
 pub mod Guided
 pub mod Sound
 pub mod Walk
+pub mod Begun
+pub mod Steps
 pub mod Symbols
 pub mod Parted
 pub mod Bindings
@@ -30,12 +32,17 @@ pub mod Texts
 pub mod Places
 pub mod Covered
 pub mod Lockstep
+pub mod Operands
 pub mod Lists
 pub mod Readings
 pub mod Headings
 pub mod Depths
 pub mod Merged
 pub mod Agreed
+pub mod Hanging
 pub mod Faults
+pub mod Prompt
+pub mod Deeply
 pub mod Exact
 pub mod Rows
+pub mod NestedRows

@@ -1,27 +1,24 @@
 -- The lists in both readings of a parenthesis, member by member.
-use Rattle.std.proofs.Common.{inl, inr, true, false, Bool, ◌⊎◌, ◌≡◌, ℕ, zero, suc, ◌+◌, ◌≤◌, ◌<◌, List, [], ◌∷◌, ◌++◌, length, Ok, Err, refl, ap, sym, subst, ◌∙◌, arith, codes}
+use Rattle.std.proofs.Common.{inl, inr, true, false, Bool, ◌≡◌, ℕ, zero, suc, ◌≤◌, List, [], ◌∷◌, ◌++◌, length, Err, refl, ap, sym, subst, ◌∙◌, arith, codes}
 use Rattle.std.proofs.lemmas.List.{length-append, append-nil}
-use Rattle.std.specs.Prelude.{if◌then◌else◌, ◌==◌}
-use Rattle.grammar.specs.Kinds.{among, apart, covers, and}
-use Rattle.grammar.specs.Grammar.{Tree, tip, leaf, pair, node, Grammar, empty, token, call, line, both, either, fork, many, named, prefer, starting, on, starts, entry}
+use Rattle.std.specs.Prelude.{if◌then◌else◌}
+use Rattle.grammar.specs.Kinds.{among, apart, covers}
+use Rattle.grammar.specs.Grammar.{Tree, tip, leaf, pair, token, both, many, starts}
 use Rattle.grammar.specs.Reading.{firsts, nullable}
-use Rattle.grammar.specs.Tests.{InPlace}
 use Rattle.grammar.proofs.Sets.{off-apart, at-covered, is_or_not}
-use Rattle.grammar.proofs.Free.{free}
 use Rattle.js_token.specs.declared.token.Token.{Token}
 use Rattle.js_grammar.specs.Kinds.{kinds, mark}
-use Rattle.js_grammar.specs.Script.{Rule, script, rules, optional, has_member, listed}
-use Rattle.parse_laws.specs.Kinds.{token_kind, numbered}
-use Rattle.parse_laws.specs.Trees.{first_token}
-use Rattle.js_parse.specs.Input.{place_at}
-use Rattle.parse_laws.proofs.Guided.{Told, Was, Goes, done, called, wrong, many_of, guided, rule_at, guided-continues, many-continues, taking}
+use Rattle.js_grammar.specs.Script.{Rule, optional, has_member, listed}
+use Rattle.parse_laws.specs.Kinds.{token_kind}
+use Rattle.parse_laws.proofs.Guided.{Was, Goes, done, called, wrong, many_of, guided, guided-continues, many-continues, taking}
 use Rattle.parse_laws.proofs.Sound.{vacant, read-front}
-use Rattle.parse_laws.proofs.Walk.{language, ahead, rule, chosen-true, chosen-false, goes-so, each-takes, tables}
+use Rattle.parse_laws.proofs.Walk.{language, ahead, rule, goes-so, each-takes}
+use Rattle.parse_laws.proofs.Begun.{chosen-true, chosen-false, tables}
 use Rattle.parse_laws.proofs.Loops.{member-came}
 use Rattle.parse_laws.proofs.Scripts.{end_kinds}
-use Rattle.parse_laws.proofs.Places.{EndsIn, Within, within-self, within-more, Ascends, ascends-behind, Stands, stands-more, stands-then, stands-if, taking-stands, many-stand, guided-stands, rule-stands, Past, stands-past}
-use Rattle.parse_laws.proofs.Covered.{Read, Placed, onward, onward-by}
-use Rattle.parse_laws.proofs.Lockstep.{Fine, fine-behind, Lock, Open, Dies, follow_kinds, Onward, open-then, stands-onward}
+use Rattle.parse_laws.proofs.Places.{EndsIn, Within, within-self, Stands, stands-more, stands-if, many-stand, guided-stands, rule-stands, stands-past, behind-other}
+use Rattle.parse_laws.proofs.Covered.{Read, Placed, onward}
+use Rattle.parse_laws.proofs.Lockstep.{Fine, fine-behind, Lock, Open, follow_kinds, open-then, stands-onward}
 
 abbrev pub comma_kinds : List ℕ
 comma_kinds = kinds (mark (codes ",") ∷ [])
@@ -51,7 +48,7 @@ shut-stands close f [] v e = absurd e
 shut-stands close f (t ∷ m) v e = by (among close (token_kind t)) refl
   where
     by : (b : Bool) → among close (token_kind t) ≡ b → Stands (t ∷ m) (if b then done (f (leaf t)) m else Err (wrong (t ∷ m)))
-    by true k = (t ∷ [], refl, Rattle.parse_laws.proofs.Places.behind-other close t m v k e)
+    by true k = (t ∷ [], refl, behind-other close t m v k e)
     by false k = (false, false, t ∷ m, refl, within-self (t ∷ m) e)
 
 pub within-short : (ts m : List Token) → Within ts m → length m ≤ length ts
@@ -194,7 +191,7 @@ module _ (depth : ℕ) where
     members-lock (suc n) (suc k) [] f g w a b = absurd w.1
     members-lock (suc n) (suc k) (t ∷ m) f g w a b = elim (is_or_not (among comma_kinds (token_kind t))) [
       | inl c ↦
-          let v : Fine m = fine-behind (t ∷ m) m w (t ∷ [], refl, Rattle.parse_laws.proofs.Places.behind-other comma_kinds t m comma-no_end c w.1) in
+          let v : Fine m = fine-behind (t ∷ m) m w (t ∷ [], refl, behind-other comma_kinds t m comma-no_end c w.1) in
           subst (λ u. Lock u (members y close g (suc k) (t ∷ m))) (sym (members-comma x close f n t m c)) (subst (λ u. Lock (guided language ahead (rule depth) (optional x) m (next_of x close f n t)) u) (sym (members-comma y close g k t m c))
           (turn-lock m v (λ o r. members x close (λ d. f (pair (pair (leaf t) o) d)) n r) (λ o r. members y close (λ d. g (pair (pair (leaf t) o) d)) k r) (next_of x close f n t) (next_of y close g k t)
           (f (pair (pair (leaf t) tip) tip)) (g (pair (pair (leaf t) tip) tip))

@@ -25,7 +25,9 @@ use Rattle.parse_laws.specs.Trees as mk
 use Rattle.parse_laws.specs.Trees.{Build, first_token, absent, first, second}
 use Rattle.parse_laws.proofs.Guided.{Goes, done, taking, guided, many_of, Told, wrong}
 use Rattle.parse_laws.proofs.Sound.{vacant, read-front}
-use Rattle.parse_laws.proofs.Walk.{language, ahead, rule, told, built, Sim, Only, step, step+, step-expect, eat-or, assoc, none-at_end, not-begun, each-takes, tables}
+use Rattle.parse_laws.proofs.Walk.{language, ahead, rule, told, built, Sim, Only, step, step+, step-expect, eat-or, none-at_end, each-takes}
+use Rattle.parse_laws.proofs.Begun.{not-begun, tables}
+use Rattle.parse_laws.proofs.Steps.{assoc}
 use Rattle.parse_laws.proofs.Symbols.{only-comma}
 
 -- ---- operands with operators between

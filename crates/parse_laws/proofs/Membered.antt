@@ -1,6 +1,6 @@
 -- Members of object literals.
 use Rattle.std.proofs.Common.{inl, inr, true, false, Bool, ◌≡◌, ℕ, List, [], ◌∷◌, refl, ap, sym, ◌∙◌, codes}
-use Rattle.std.specs.Prelude.{Some, None, if◌then◌else◌, Ok, Err}
+use Rattle.std.specs.Prelude.{Some, if◌then◌else◌, Ok, Err}
 use Rattle.grammar.specs.Kinds.{among, apart}
 use Rattle.grammar.specs.Reading.{firsts, nullable}
 use Rattle.grammar.specs.Tests.{InPlace}
@@ -31,7 +31,9 @@ use Rattle.parse_laws.specs.Trees as mk
 use Rattle.parse_laws.specs.Trees.{Parts, parts_at, place_in, symbol_in, first_token, first, second, under, Build}
 use Rattle.parse_laws.proofs.Guided.{guided, Goes, done, wrong}
 use Rattle.parse_laws.proofs.Sound.{vacant, read-front, read-maybe}
-use Rattle.parse_laws.proofs.Walk.{refusals, ahead, rule, told, built, Sim, step, step-same, step-same+, step-expect, if-alike, goes-so, each-takes, language, sim-by, sim-by-at, sim-at, at_kind, kind-at, any_name-at, none-at_end, tables}
+use Rattle.parse_laws.proofs.Walk.{ahead, rule, told, built, Sim, step, step-expect, if-alike, goes-so, each-takes, language, at_kind, none-at_end}
+use Rattle.parse_laws.proofs.Begun.{refusals, sim-by, kind-at, tables}
+use Rattle.parse_laws.proofs.Steps.{step-same, step-same+, sim-by-at, sim-at, any_name-at}
 use Rattle.parse_laws.proofs.Symbols.{only-open_brace, only-close_brace}
 use Rattle.parse_laws.proofs.Loops.{listed-sim, none-first}
 use Rattle.parse_laws.proofs.Parted.{Parted}

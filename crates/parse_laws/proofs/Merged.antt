@@ -1,29 +1,27 @@
 -- What the guided reader and the reader of the grammar answer of a fork.
-use Rattle.std.proofs.Common.{inl, inr, true, false, Bool, ◌⊎◌, ◌≡◌, ℕ, zero, suc, ◌+◌, ◌≤◌, ◌<◌, List, [], ◌∷◌, ◌++◌, length, Ok, Err, refl, ap, sym, subst, ◌∙◌, arith, codes}
+use Rattle.std.proofs.Common.{inl, inr, true, false, Bool, ◌⊎◌, ◌≡◌, ℕ, ◌≤◌, List, ◌∷◌, Ok, Err, refl, ap, sym, subst, ◌∙◌, arith}
 use Rattle.std.proofs.lemmas.Bool.{ltb-true, ltb-false}
-use Rattle.std.specs.Prelude.{if◌then◌else◌, ◌==◌, ◌||◌, nat_lt, ltb}
-use Rattle.grammar.specs.Kinds.{among, apart, covers, and}
-use Rattle.grammar.specs.Grammar.{Tree, tip, leaf, pair, node, Grammar, empty, token, call, line, both, either, fork, many, named, prefer, starting, on, Derives, Spells, starts, entry}
-use Rattle.grammar.specs.Reading.{Answer, ◌>>=◌, firsts, nullable, further, furthest, refused}
-use Rattle.grammar.proofs.Sets.{off-apart, at-covered, off-covered, is_or_not}
+use Rattle.std.specs.Prelude.{if◌then◌else◌, nat_lt}
+use Rattle.grammar.specs.Kinds.{among, covers}
+use Rattle.grammar.specs.Grammar.{Tree, leaf, pair, both, either, starts}
+use Rattle.grammar.proofs.Sets.{at-covered, is_or_not}
 use Rattle.grammar.specs.Tests.{InPlace}
 use Rattle.js_token.specs.declared.token.Token.{Token}
-use Rattle.js_grammar.specs.Kinds.{kinds, mark}
-use Rattle.js_grammar.specs.Script.{Rule, script, form, identifier, parameters, arrow_tail, arrow_kinds, cond_rule}
+use Rattle.js_grammar.specs.Script.{Rule, identifier, parameters, arrow_tail, arrow_kinds, cond_rule}
 use Rattle.js_parse.specs.declared.fault.Fault.{Fault}
 use Rattle.js_parse.specs.declared.fault.Fault.TheVariants as fault
-use Rattle.js_parse.specs.declared.symbol.Symbol.{Symbol}
 use Rattle.js_parse.specs.declared.symbol.Symbol.TheVariants as s
 use Rattle.js_parse.specs.Symbols.{of_kind, is_name, same}
 use Rattle.js_parse.specs.Input.{place_at, later, arrow_at}
-use Rattle.parse_laws.specs.Kinds.{token_kind, numbered}
-use Rattle.parse_laws.proofs.Guided.{Told, Was, Goes, done, called, wrong, first_of, forked, fault_in, opens_next, guided, rule_at, guided-continues}
+use Rattle.parse_laws.proofs.Guided.{Was, Goes, done, called, wrong, first_of, fault_in, guided}
 use Rattle.parse_laws.proofs.Sound.{rule-finds}
-use Rattle.parse_laws.proofs.Walk.{language, ahead, rule, at_kind, kind-at, chosen-true, chosen-false, not-begun, tables}
+use Rattle.parse_laws.proofs.Walk.{language, ahead, rule, at_kind}
+use Rattle.parse_laws.proofs.Begun.{kind-at, not-begun, tables}
 use Rattle.parse_laws.proofs.Ahead.{ahead-name, ahead-open, arrow-starts, language-told, behind-brackets, opens-agree}
-use Rattle.parse_laws.proofs.Places.{EndsIn, Within, within-self, within-more, Ascends, ends-same, further-first_place, further-second_place, fault_at, Stands, stands-more, rule-stands, guided-stands, Past, fault_place, stands-past}
-use Rattle.parse_laws.proofs.Covered.{Read, Placed, onward-by, behind, behind-quiet, behind-stands, quiet_kinds, cond-name, cond-paren}
-use Rattle.parse_laws.proofs.Lockstep.{Fine, fine-behind, fine-name, Lock, Onward, past-then, then-ok, then-err, within-of, stands-onward, placed-arrow, named-arrow}
+use Rattle.parse_laws.proofs.Places.{Within, within-self, Ascends, fault_at, Stands, rule-stands, Past, stands-past}
+use Rattle.parse_laws.proofs.Covered.{Read, onward-by, behind, behind-quiet, behind-stands, quiet_kinds, cond-name, cond-paren}
+use Rattle.parse_laws.proofs.Lockstep.{Fine, fine-behind, Onward, past-then, then-ok, then-err, within-of, stands-onward}
+use Rattle.parse_laws.proofs.Operands.{fine-name, placed-arrow, named-arrow}
 use Rattle.parse_laws.proofs.Depths.{parens}
 
 -- ---- the later of two faults

@@ -26,7 +26,9 @@ use Rattle.parse_laws.proofs.Symbols
 use Rattle.parse_laws.specs.Trees as mk
 use Rattle.parse_laws.specs.Trees.{Build, Parts, parts_at}
 use Rattle.parse_laws.proofs.Guided.{guided, Goes, done, called, rule_at, guided-continues, called-done, wrong}
-use Rattle.parse_laws.proofs.Walk.{language, ahead, rule, told, built, Sim, called-agree, if-alike, arrow-agrees, tables}
+use Rattle.parse_laws.proofs.Walk.{language, ahead, rule, told, built, Sim, called-agree, if-alike}
+use Rattle.parse_laws.proofs.Begun.{tables}
+use Rattle.parse_laws.proofs.Steps.{arrow-agrees}
 use Rattle.parse_laws.proofs.Parted.{Parted, new_form}
 use Rattle.parse_laws.proofs.Bracketed
 use Rattle.parse_laws.proofs.Membered

@@ -1,6 +1,6 @@
 -- Operators between operands.
 use Rattle.std.proofs.Common.{inl, inr, true, false, Bool, ◌⊎◌, ◌≡◌, ℕ, zero, suc, List, [], ◌∷◌, length, refl, ap, sym, subst, ◌∙◌, codes}
-use Rattle.std.specs.Prelude.{Option, Some, if◌then◌else◌, Ok}
+use Rattle.std.specs.Prelude.{if◌then◌else◌, Ok}
 use Rattle.grammar.specs.Kinds.{among, apart}
 use Rattle.grammar.proofs.Sets.{off-apart}
 use Rattle.grammar.specs.Reading.{firsts}
@@ -18,7 +18,9 @@ use Rattle.parse_laws.specs.Trees as mk
 use Rattle.parse_laws.specs.Trees.{first_token, Parts, parts_at, place_in, symbol_in, first, second, under, Build}
 use Rattle.parse_laws.proofs.Guided.{guided, many_of, Goes, done, called_ok, ok_same, guided-continues, Told}
 use Rattle.parse_laws.proofs.Sound.{vacant}
-use Rattle.parse_laws.proofs.Walk.{language, ahead, rule, told, built, Sim, step, step+, step-same, step-same+, sees-starts, tip-took, at-first, assoc, tables}
+use Rattle.parse_laws.proofs.Walk.{language, ahead, rule, told, built, Sim, step, step+, at-first}
+use Rattle.parse_laws.proofs.Begun.{tables}
+use Rattle.parse_laws.proofs.Steps.{step-same, step-same+, sees-starts, tip-took, assoc}
 use Rattle.parse_laws.proofs.Loops.{Level, chain-sim}
 use Rattle.parse_laws.proofs.Levels.{level-1, level-2, level-3, level-4, level-5, level-6, level-7, level-8, level-9, level-10, level-11}
 use Rattle.parse_laws.proofs.Symbols.{only-coalesce}

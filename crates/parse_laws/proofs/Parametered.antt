@@ -1,6 +1,6 @@
 -- Lists of parameters.
 use Rattle.std.proofs.Common.{true, false, Bool, ◌≡◌, ℕ, zero, suc, ◌≤◌, List, [], ◌∷◌, ◌++◌, length, refl, ap, sym, subst, ◌∙◌, codes, arith}
-use Rattle.std.specs.Prelude.{Option, Some, None, if◌then◌else◌, Ok, Err}
+use Rattle.std.specs.Prelude.{Some, None, if◌then◌else◌, Ok, Err}
 use Rattle.grammar.specs.Kinds.{among, apart}
 use Rattle.grammar.specs.Reading.{firsts, nullable}
 use Rattle.grammar.specs.Tests.{InPlace}
@@ -23,7 +23,9 @@ use Rattle.parse_laws.specs.Trees as mk
 use Rattle.parse_laws.specs.Trees.{Parts, parts_at, place_in, symbol_in, first_token, first, second, under, Build}
 use Rattle.parse_laws.proofs.Guided.{guided, many_of, taking, Goes, done, Told, wrong}
 use Rattle.parse_laws.proofs.Sound.{vacant, read-front, guided-finds, rule-finds}
-use Rattle.parse_laws.proofs.Walk.{refusals, language, ahead, rule, told, built, Sim, step+, step-same, step-expect, eat-or, not-begun, each-takes, none-at_end, assoc, tables}
+use Rattle.parse_laws.proofs.Walk.{language, ahead, rule, told, built, Sim, step+, step-expect, eat-or, each-takes, none-at_end}
+use Rattle.parse_laws.proofs.Begun.{refusals, not-begun, tables}
+use Rattle.parse_laws.proofs.Steps.{step-same, assoc}
 use Rattle.parse_laws.proofs.Symbols.{only-comma, only-ellipsis, only-open_paren, only-close_paren}
 use Rattle.parse_laws.proofs.Loops.{none-first}
 use Rattle.parse_laws.proofs.Parted.{Parted}

@@ -26,7 +26,9 @@ use Rattle.parse_laws.specs.Trees as mk
 use Rattle.parse_laws.specs.Trees.{Parts, parts_at, place_in, symbol_in, first_token, first, second, under, Build}
 use Rattle.parse_laws.proofs.Guided.{guided, Goes, wrong}
 use Rattle.parse_laws.proofs.Sound.{vacant}
-use Rattle.parse_laws.proofs.Walk.{refusals, language, ahead, rule, told, built, Sim, step, step-same, step-expect, eat-step, eat-need, sim-by, sim-at, at_kind, if-alike, any_name-at, step-name, name-agrees, tables}
+use Rattle.parse_laws.proofs.Walk.{language, ahead, rule, told, built, Sim, step, step-expect, eat-step, at_kind, if-alike}
+use Rattle.parse_laws.proofs.Begun.{refusals, sim-by, tables}
+use Rattle.parse_laws.proofs.Steps.{step-same, eat-need, sim-at, any_name-at, step-name, name-agrees}
 use Rattle.parse_laws.proofs.Symbols.{only-open_paren, only-close_paren, only-close_brace, only-close_bracket, only-colon, only-function}
 use Rattle.parse_laws.proofs.Loops.{listed-sim}
 use Rattle.parse_laws.proofs.Parted.{Parted}

@@ -1,15 +1,13 @@
 -- Where what is read ends, and where a fault is: at a token of the text.
 use Rattle.std.proofs.Common.{inl, inr, true, false, Bool, ◌⊎◌, ◌≡◌, ℕ, zero, suc, ◌+◌, ◌≤◌, ◌<◌, List, [], ◌∷◌, ◌++◌, length, Ok, Err, refl, ap, sym, subst, ◌∙◌, arith}
-use Rattle.std.proofs.lemmas.List.{append_assoc, length-append}
 use Rattle.std.proofs.lemmas.Bool.Decides.{leb_tells}
-use Rattle.std.proofs.lemmas.Bool.{ltb-true, ltb-false}
-use Rattle.std.specs.Prelude.{if◌then◌else◌, ◌==◌, nat_lt, ltb}
-use Rattle.grammar.specs.Kinds.{among, apart, and, not}
-use Rattle.grammar.specs.Grammar.{Tree, tip, leaf, pair, node, Grammar, empty, token, call, line, both, either, fork, many, named, prefer, starting, on, starts}
+use Rattle.std.specs.Prelude.{if◌then◌else◌, ◌==◌, nat_lt}
+use Rattle.grammar.specs.Kinds.{among, apart}
+use Rattle.grammar.specs.Grammar.{Tree, tip, leaf, pair, Grammar, empty, token, call, line, both, either, fork, many, named, prefer, starting, on, starts}
 use Rattle.grammar.specs.Reading.{firsts, further}
 use Rattle.grammar.specs.Tests.{InPlace}
 use Rattle.grammar.proofs.Laws.{rows}
-use Rattle.grammar.proofs.Sets.{and_both, not_true, apart-tells, false_by}
+use Rattle.grammar.proofs.Sets.{and_both, not_true, apart-tells}
 use Rattle.grammar.proofs.Local.{ends, further-first, further-second}
 use Rattle.grammar.proofs.Free.{free}
 use Rattle.js_token.specs.declared.token.Token.{Token}
@@ -20,7 +18,7 @@ use Rattle.js_parse.specs.declared.fault.Fault.{Fault}
 use Rattle.js_parse.specs.declared.fault.Fault.TheVariants as fault
 use Rattle.js_parse.specs.Input.{place_at, later}
 use Rattle.parse_laws.specs.Kinds.{token_kind}
-use Rattle.parse_laws.proofs.Guided.{Told, Was, Goes, done, called, wrong, too_far, first_of, forked, fault_in, opens_next, taking, many_of, guided, rule_at, many-continues, guided-continues}
+use Rattle.parse_laws.proofs.Guided.{Was, Goes, done, called, wrong, too_far, first_of, forked, fault_in, opens_next, taking, many_of, guided, rule_at, many-continues, guided-continues}
 use Rattle.parse_laws.proofs.Walk.{language, language-fits, ahead, rule}
 use Rattle.parse_laws.proofs.Scripts.{end_kinds}
 

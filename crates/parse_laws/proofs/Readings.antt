@@ -1,30 +1,30 @@
 -- The rules in both readings of a parenthesis: brackets of an array and of a pattern, of an object and of a pattern, and a parenthesis and parameters.
-use Rattle.std.proofs.Common.{inl, inr, true, false, Bool, ◌⊎◌, ◌≡◌, ℕ, zero, suc, ◌+◌, ◌≤◌, ◌<◌, List, [], ◌∷◌, ◌++◌, length, Ok, Err, refl, ap, sym, subst, ◌∙◌, arith, codes}
-use Rattle.std.proofs.lemmas.List.{length-append, append-nil}
-use Rattle.std.specs.Prelude.{if◌then◌else◌, ◌==◌}
-use Rattle.grammar.specs.Kinds.{among, apart, covers, and}
-use Rattle.grammar.specs.Grammar.{Tree, tip, leaf, pair, node, Grammar, empty, token, call, line, both, either, fork, many, named, prefer, starting, on, starts, entry}
+use Rattle.std.proofs.Common.{inl, inr, true, false, Bool, ◌≡◌, ℕ, List, [], ◌∷◌, Err, refl, ap, sym, subst, ◌∙◌, codes}
+use Rattle.std.proofs.lemmas.List.{append-nil}
+use Rattle.grammar.specs.Kinds.{among, apart, covers}
+use Rattle.grammar.specs.Grammar.{Tree, tip, leaf, pair, token, line, both, either, starts, entry}
 use Rattle.grammar.specs.Reading.{firsts, nullable}
 use Rattle.grammar.specs.Tests.{InPlace}
-use Rattle.grammar.proofs.Sets.{off-apart, at-covered, off-covered, is_or_not}
+use Rattle.grammar.proofs.Sets.{off-apart, at-covered, is_or_not}
 use Rattle.grammar.proofs.Free.{free}
 use Rattle.js_token.specs.declared.token.Token.{Token}
-use Rattle.js_grammar.specs.Kinds.{kinds, mark, name, names, reserved, text, number}
+use Rattle.js_grammar.specs.Kinds.{kinds, mark}
 use Rattle.js_grammar.specs.Script.{Rule, script, rules, any, always, optional, has_member, listed, bind, default, parameter, pattern_member, pattern_rule, array_rule, object_rule, element, property, behind_key, key, computed_key, getter, setter, rest_parameter, is_parameter, has_parameter, parameter_list, parameters_rule, group_rule, expr, expr_rule, assign_rule}
 use Rattle.js_parse.specs.declared.symbol.Symbol.{Symbol}
 use Rattle.js_parse.specs.declared.symbol.Symbol.TheVariants as s
-use Rattle.js_parse.specs.Symbols.{of_kind, is_name, is_word, same}
-use Rattle.js_parse.specs.Input.{place_at}
+use Rattle.js_parse.specs.Symbols.{of_kind, same}
 use Rattle.parse_laws.specs.Kinds.{token_kind, numbered}
-use Rattle.parse_laws.proofs.Guided.{Told, Was, Goes, done, called, wrong, many_of, guided, rule_at, guided-continues, many-continues, taking}
+use Rattle.parse_laws.proofs.Guided.{Was, Goes, done, wrong, guided, taking}
 use Rattle.parse_laws.proofs.Sound.{vacant}
-use Rattle.parse_laws.proofs.Walk.{language, ahead, rule, at_kind, kind-at, chosen-true, chosen-false, not-begun, tables}
+use Rattle.parse_laws.proofs.Walk.{language, ahead, rule, at_kind}
+use Rattle.parse_laws.proofs.Begun.{kind-at, chosen-false, tables}
 use Rattle.parse_laws.proofs.Symbols.{end-agrees}
 use Rattle.parse_laws.proofs.Scripts.{end_kinds}
-use Rattle.parse_laws.proofs.Places.{EndsIn, Within, within-self, within-more, Ascends, ascends-behind, Stands, stands-more, stands-then, stands-if, many-stand, guided-stands, rule-stands, Past, stands-past, behind-other}
-use Rattle.parse_laws.proofs.Covered.{Read, Placed, onward, onward-by}
-use Rattle.parse_laws.proofs.Lockstep.{Fine, fine-behind, Lock, Open, Dies, follow_kinds, Onward, open-then, stands-onward, Locks, member-open, bound, assigned, defaulted, bound-none, placed-assign, placed-bind}
-use Rattle.parse_laws.proofs.Lists.{comma_kinds, comma-no_end, shut_by, shut-lock, shut-none, shut-stands, within-short, reads, comma_then, Paired, wholly, listed-lock}
+use Rattle.parse_laws.proofs.Places.{EndsIn, within-self, ascends-behind, Stands, stands-past}
+use Rattle.parse_laws.proofs.Covered.{Read, Placed, onward-by}
+use Rattle.parse_laws.proofs.Lockstep.{Fine, Open, follow_kinds, defaulted, defaulted-stands, default-none}
+use Rattle.parse_laws.proofs.Operands.{Locks, member-open, assigned}
+use Rattle.parse_laws.proofs.Lists.{comma_kinds, reads, Paired}
 
 pub fine-next : (t : Token) (ts : List Token) → Fine (t ∷ ts) → same (of_kind t.kind) s.End ≡ false → Fine ts
 unfolding token_kind
@@ -277,10 +277,10 @@ module _ (depth : ℕ) where
                 inl (
                   u ∷ m,
                   inr (pair (leaf t) tip, k.none (u ∷ m) (λ b r. done (pair (leaf t) b) r) off.0, off.1),
-                  stands-past (u ∷ m) _ f.0 (Rattle.parse_laws.proofs.Lockstep.defaulted-stands depth (u ∷ m) (u ∷ m) member_behind (pair (leaf t) tip) (within-self (u ∷ m) f.1)),
+                  stands-past (u ∷ m) _ f.0 (defaulted-stands depth (u ∷ m) (u ∷ m) member_behind (pair (leaf t) tip) (within-self (u ∷ m) f.1)),
                 )
             | inr q ↦
-                let none = Rattle.parse_laws.proofs.Lockstep.default-none depth (u ∷ m) (λ b r. done (member_behind (pair (leaf t) tip) b) r) q in
+                let none = default-none depth (u ∷ m) (λ b r. done (member_behind (pair (leaf t) tip) b) r) q in
                 elim (is_or_not (starts language (among follow_kinds) (u ∷ m))) [
                   | inl g ↦ inr (inr (inr (pair (leaf t) tip, pair (pair (leaf t) tip) tip, u ∷ m, k.none (u ∷ m) (λ b r. done (pair (leaf t) b) r) (quiet-follows (u ∷ m) g), none)))
                   | inr g ↦ inr (inl (u ∷ m, inr (pair (pair (leaf t) tip) tip, none, g), stands-past (u ∷ m) _ f.0 (keyed-stands z k.keyed.placed t (u ∷ m) f.1)))

@@ -1,8 +1,8 @@
 -- What is a script is parsed.
-use Rattle.std.proofs.Common.{inl, inr, true, false, Bool, ◌≡◌, ℕ, zero, suc, ◌≤◌, ◌<◌, List, [], ◌∷◌, ◌++◌, length, refl, ap, sym, subst, ◌∙◌, arith}
-use Rattle.std.specs.Prelude.{Some, None, Ok, Err, if◌then◌else◌}
-use Rattle.grammar.specs.Kinds.{among, apart}
-use Rattle.grammar.specs.Grammar.{Tree, tip, leaf, pair, Derives, starts, entry}
+use Rattle.std.proofs.Common.{inl, inr, true, false, Bool, ◌≡◌, ℕ, zero, suc, ◌≤◌, List, [], ◌∷◌, ◌++◌, length, refl, ap, sym, subst, ◌∙◌, arith}
+use Rattle.std.specs.Prelude.{Ok, Err, if◌then◌else◌}
+use Rattle.grammar.specs.Kinds.{among}
+use Rattle.grammar.specs.Grammar.{Tree, leaf, pair, starts, entry}
 use Rattle.grammar.specs.Reading.{firsts, read}
 use Rattle.grammar.proofs.Sets.{apart-tells, false_by}
 use Rattle.grammar.proofs.Complete.{read-complete}
@@ -11,7 +11,7 @@ use Rattle.js_tree.specs.Nodes.{Nodes}
 use Rattle.js_tree.specs.declared.node.NodeId.{NodeId}
 use Rattle.js_tree.specs.declared.node.Node.TheVariants as made
 use Rattle.js_grammar.specs.Kinds.{kinds, end}
-use Rattle.js_grammar.specs.Script.{Rule, item, always, any, nesting, script, script_language, script_rule, rules}
+use Rattle.js_grammar.specs.Script.{item, always, nesting, script, script_language, script_rule, rules}
 use Rattle.js_grammar.specs.Scripts.{IsScript}
 use Rattle.js_grammar.proofs.Tables.{tails}
 use Rattle.js_grammar.proofs.Passes.{script-fits, script-apart}
@@ -25,7 +25,7 @@ use Rattle.parse_laws.specs.Kinds.{token_kind}
 use Rattle.parse_laws.specs.Trees as mk
 use Rattle.parse_laws.specs.Trees.{parts_at, nodes_of, place_in, place_of_first, first_token}
 use Rattle.parse_laws.proofs.Guided.{guided, Was, done, called, taking, many_of, rule_at, ok_same, called_ok, was, many-continues, guided-continues}
-use Rattle.parse_laws.proofs.Sound.{read-front}
+use Rattle.parse_laws.proofs.Sound.{vacant, read-front}
 use Rattle.parse_laws.proofs.Walk.{language, ahead, rule, told, built, each-takes}
 use Rattle.parse_laws.proofs.Symbols.{end-agrees}
 use Rattle.parse_laws.proofs.Nested.{parted}
@@ -113,7 +113,7 @@ end-taken (t ∷ ts) f p e = elim (was (among end_kinds (token_kind t)) _ _ p e)
 
 -- the place of the first token of the script
 pub script-place : (depth : ℕ) (ts rest : List Token) (a : Tree Token) → guided language ahead (rule depth) script_rule ts done ≡ Ok (a, rest) → place_in a ≡ place_at ts
-unfolding script_rule Rattle.parse_laws.proofs.Sound.vacant
+unfolding script_rule vacant
 script-place depth ts rest a e =
     let f = read-front language ahead depth each-takes script_rule refl ts rest a e in
     ap (λ o. place_of_first o) f.3 ∙ ap (λ ts. place_at ts) (sym f.2)

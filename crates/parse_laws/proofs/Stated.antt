@@ -26,7 +26,9 @@ use Rattle.parse_laws.specs.Trees as mk
 use Rattle.parse_laws.specs.Trees.{Parts, parts_at, place_in, symbol_in, first_token, first, second, under, Build}
 use Rattle.parse_laws.proofs.Guided.{guided, Goes, wrong}
 use Rattle.parse_laws.proofs.Sound.{vacant, read-front}
-use Rattle.parse_laws.proofs.Walk.{refusals, language, ahead, rule, told, built, Sim, step, step+, step-expect, eat-step, eat-step+, eat-need+, eat-prefer, even-kind, sim-by-at, sim-at, at_kind, sees-starts, not-begun, on-true, on-false, none-at_end, assoc, each-takes, tables}
+use Rattle.parse_laws.proofs.Walk.{language, ahead, rule, told, built, Sim, step, step+, step-expect, eat-step, eat-step+, at_kind, on-true, on-false, none-at_end, each-takes}
+use Rattle.parse_laws.proofs.Begun.{refusals, not-begun, tables}
+use Rattle.parse_laws.proofs.Steps.{eat-need+, eat-prefer, even-kind, sim-by-at, sim-at, sees-starts, assoc}
 use Rattle.parse_laws.proofs.Symbols
 use Rattle.parse_laws.proofs.Loops.{items-loop, none-first}
 use Rattle.parse_laws.proofs.Parted.{Parted}

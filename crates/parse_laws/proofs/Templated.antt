@@ -1,6 +1,6 @@
 -- Templates.
 use Rattle.std.proofs.Common.{true, false, Bool, ◌≡◌, ℕ, zero, suc, ◌≤◌, List, [], ◌∷◌, ◌++◌, length, refl, ap, sym, ◌∙◌, arith}
-use Rattle.std.specs.Prelude.{Option, None, if◌then◌else◌, Err}
+use Rattle.std.specs.Prelude.{if◌then◌else◌, Err}
 use Rattle.grammar.specs.Kinds.{among, apart}
 use Rattle.grammar.specs.Reading.{firsts, nullable}
 use Rattle.grammar.specs.Grammar.{Tree, tip, leaf, pair, both, token}
@@ -22,7 +22,9 @@ use Rattle.parse_laws.specs.Trees as mk
 use Rattle.parse_laws.specs.Trees.{Parts, parts_at, place_in, symbol_in, first_token, first, second, under, Build}
 use Rattle.parse_laws.proofs.Guided.{guided, many_of, taking, Told, wrong}
 use Rattle.parse_laws.proofs.Sound.{vacant, read-front, read-shorter}
-use Rattle.parse_laws.proofs.Walk.{refusals, language, ahead, rule, told, built, step+, each-takes, at_kind, kind-at, none-at_end, assoc, tables}
+use Rattle.parse_laws.proofs.Walk.{language, ahead, rule, told, built, step+, each-takes, at_kind, none-at_end}
+use Rattle.parse_laws.proofs.Begun.{refusals, kind-at, tables}
+use Rattle.parse_laws.proofs.Steps.{assoc}
 use Rattle.parse_laws.proofs.Symbols.{only-template_tail, only-template_middle}
 use Rattle.parse_laws.proofs.Parted.{Parted}
 use Rattle.parse_laws.proofs.Arrows.{expression-sim, expr-takes}

@@ -1,11 +1,11 @@
 -- What is parsed of a text's tokens is a script.
-use Rattle.std.proofs.Common.{inl, inr, true, false, Bool, ◌≡◌, ℕ, zero, suc, ◌+◌, ◌*◌, ◌<◌, List, [], ◌∷◌, ◌++◌, length, refl, ap, sym, subst, ◌∙◌, arith}
-use Rattle.std.specs.Prelude.{Ok, Err, if◌then◌else◌}
-use Rattle.grammar.specs.Kinds.{among, apart, alike}
+use Rattle.std.proofs.Common.{true, false, ◌≡◌, ℕ, suc, ◌+◌, ◌*◌, List, [], ◌∷◌, ◌++◌, length, refl, ap, sym, subst, ◌∙◌, arith}
+use Rattle.std.specs.Prelude.{Ok, if◌then◌else◌}
+use Rattle.grammar.specs.Kinds.{among}
 use Rattle.grammar.specs.Grammar.{Tree, leaf, pair, Derives, Spells, entry}
 use Rattle.grammar.specs.Reading.{read}
 use Rattle.grammar.specs.Tests.{InPlace}
-use Rattle.grammar.proofs.Laws.{read-sound, read_at-sound}
+use Rattle.grammar.proofs.Laws.{read-sound}
 use Rattle.grammar.proofs.Complete.{read-complete}
 use Rattle.grammar.proofs.Pairs.{all-apart}
 use Rattle.grammar.proofs.Free.{free, NoneOf, spells-free, derives-free}
@@ -17,9 +17,8 @@ use Rattle.js_tree.specs.Nodes.{Nodes}
 use Rattle.js_grammar.specs.Kinds.{kinds, end, class_of}
 use Rattle.js_grammar.specs.Script.{item, any, nesting, script, script_language, script_rule, rules}
 use Rattle.js_grammar.specs.Scripts.{IsScript}
-use Rattle.js_grammar.proofs.Tables.{tails, parentheses}
+use Rattle.js_grammar.proofs.Tables.{parentheses}
 use Rattle.js_grammar.proofs.Ends.{rules-free}
-use Rattle.js_parse.specs.declared.symbol.Symbol.{Symbol}
 use Rattle.js_parse.specs.declared.symbol.Symbol.TheVariants as s
 use Rattle.js_parse.specs.Symbols.{same, of_kind, of_mark, marks}
 use Rattle.js_parse.specs.Ready.{symbol_of}
@@ -28,7 +27,7 @@ use Rattle.parse_laws.specs.Kinds.{token_kind, class}
 use Rattle.parse_laws.specs.Trees.{nodes_of}
 use Rattle.parse_laws.proofs.Walk.{language, language-fits}
 use Rattle.parse_laws.proofs.Symbols.{end-agrees}
-use Rattle.parse_laws.proofs.Whole.{script-found, is-end}
+use Rattle.parse_laws.proofs.Whole.{script-found}
 use Rattle.parse_laws.proofs.Ahead.{follows, language-told}
 use Rattle.parse_laws.proofs.Kinded.{Same, words-agree, names-agree, mark-at, each-mark}
 use Rattle.parse_laws.proofs.Kindred.{AllSame, read-alike}
@@ -114,18 +113,21 @@ no-end depth tokens rest items d =
     spells-free language end_kinds script (Derives language depth) (λ n. (language-fits n).1) rules-free (derives-free language end_kinds script (λ n. (language-fits n).1) rules-free depth)
     (any item) refl refl tokens rest items d
 
-pub wholly : (tokens : List Token) (items : Tree Token) (t : Token) (rest : List Token) → Spells language (Derives language nesting) (any item) tokens rest items → rest ≡ t ∷ []
-    → t.kind ≡ kind.End → Derives language (suc nesting) script tokens [] (pair items (leaf t))
+pub wholly : (depth : ℕ) (tokens : List Token) (items : Tree Token) (t : Token) (rest : List Token) → Spells language (Derives language depth) (any item) tokens rest items → rest ≡ t ∷ []
+    → t.kind ≡ kind.End → Derives language (suc depth) script tokens [] (pair items (leaf t))
 unfolding Derives Spells rules entry script_rule
-wholly tokens items t rest d e k = (rest, items, leaf t, d, (t, e, ends t k, refl), refl)
+wholly depth tokens items t rest d e k = (rest, items, leaf t, d, (t, e, ends t k, refl), refl)
+
+pub is-derived : (depth : ℕ) (tokens : List Token) (tree : Tree Token) → AllSame tokens → Derives language depth script tokens [] tree → Derives script_language depth script tokens [] tree
+is-derived depth tokens tree a d =
+    let limit = suc (length tokens) in
+    let one : read language limit depth script tokens ≡ Ok (tree, []) =
+    read-complete language follows language-fits limit (all-apart language follows language-fits parentheses language-told limit) depth script tokens [] tree d refl (omega arith) in
+    read-sound script_language limit depth script tokens (tree, []) (read-alike limit depth script tokens a ∙ one)
 
 pub is-script : (tokens : List Token) (tree : Tree Token) → AllSame tokens → Derives language (suc nesting) script tokens [] tree → IsScript tokens tree
 unfolding IsScript
-is-script tokens tree a d =
-    let limit = suc (length tokens) in
-    let one : read language limit (suc nesting) script tokens ≡ Ok (tree, []) =
-    read-complete language follows language-fits limit (all-apart language follows language-fits parentheses language-told limit) (suc nesting) script tokens [] tree d refl (omega arith) in
-    read-sound script_language limit (suc nesting) script tokens (tree, []) (read-alike limit (suc nesting) script tokens a ∙ one)
+is-script tokens tree a d = is-derived (suc nesting) tokens tree a d
 
 -- What is parsed of a text's tokens is a script, and the nodes are those of its derivation.
 pub text-parsed : (tokens : List Token) (nodes : Nodes) → EndsSo tokens → parsed tokens ≡ Ok nodes → (tree : Tree Token) × IsScript tokens tree × (nodes ≡ nodes_of nesting tree)
@@ -134,6 +136,6 @@ text-parsed tokens nodes w e =
     let f = no-end nesting tokens k.1 k.0 k.2 in
     let last = last-one w.0 f.0 k.1 w.1 (sym w.2 ∙ f.1) w.3 f.2 k.3 w.4 in
     let tree = pair k.0 (leaf w.1) in
-    let is : IsScript tokens tree = is-script tokens tree (text-same tokens w) (wholly tokens k.0 w.1 k.1 k.2 last w.4) in
+    let is : IsScript tokens tree = is-script tokens tree (text-same tokens w) (wholly nesting tokens k.0 w.1 k.1 k.2 last w.4) in
     let nodes_same : nodes ≡ nodes_of nesting tree = let p = script-parsed tokens tree is in cc (p, e) in
     (tree, is, nodes_same)

@@ -47,15 +47,17 @@ abbrev pub ParsesTexts : Type 0
 ParsesTexts = (bytes : List ℕ) (tokens : List Token) (nodes : Nodes) → tokens_of bytes ≡ Ok tokens → parsed tokens ≡ Ok nodes
     → (tree : Tree Token) × IsScript tokens tree × (nodes ≡ nodes_of nesting tree)
 
--- The tokens before the one at the place begin some script, and what is told of what goes on from that token on holds.
-abbrev pub StopsAt : ℕ → (List Token → List Token → Type 0) → List Token → Type 0
+-- The tokens before the one at the place begin some script, and what is told of that token behind them holds.
+abbrev pub StopsAt : ℕ → (List Token → Token → List Token → Type 0) → List Token → Type 0
 StopsAt at told tokens =
-    (front : List Token) × (t : Token) × (rest : List Token) × (tokens ≡ front ++ t ∷ rest) × (t.place ≡ at) × Viable script_language script front × told front (t ∷ rest)
+    (front : List Token) × (t : Token) × (rest : List Token) × (tokens ≡ front ++ t ∷ rest) × (t.place ≡ at) × Viable script_language script front × told front t rest
 
--- The fault is at the first token that no script has behind the tokens before it: no script at all, or none in which parts nest at most to the limit.
+-- The fault is at the first token that no script has behind the tokens before it. Of nesting: that no script has there in which parts nest at most to the
+-- limit, and another script has.
 abbrev pub FaultIs : List Token → ParseFault → Type 0
-FaultIs tokens (fault.Token at) = StopsAt at (λ front left. (depth : ℕ) → NoneGoesOn script_language depth script front left) tokens
-FaultIs tokens (fault.Deep at) = StopsAt at (λ front left. NoneGoesOn script_language (suc nesting) script front left) tokens
+FaultIs tokens (fault.Token at) = StopsAt at (λ front t rest. (depth : ℕ) → NoneGoesOn script_language depth script front (t ∷ rest)) tokens
+FaultIs tokens (fault.Deep at) =
+    StopsAt at (λ front t rest. NoneGoesOn script_language (suc nesting) script front (t ∷ rest) × Viable script_language script (front ++ t ∷ [])) tokens
 FaultIs tokens fault.Memory = ⊥
 
 -- The place of a text's fault is exact.

@@ -2,7 +2,9 @@
 //!
 //! `specs/Trees` has the list of nodes that a derivation stands for, `specs/Kinds` the kinds of tokens by their symbols,
 //! and `specs/Agreement` what is promised. In `proofs/`, each rule of the parser is compared with that of the grammar,
-//! depth by depth: both read the same, or neither does. `proofs/Rows` has whole scripts, their faults included.
+//! depth by depth, as an equation of answers: what is read, its nodes and its faults. `proofs/Scripts` has what is derived,
+//! `proofs/Texts` the tokens of texts, and `proofs/Exact` the places of their faults; `proofs/Rows` and
+//! `proofs/NestedRows` have whole scripts as rows.
 #![tactic(auto)]
 
 ghost use Rattle.parse_laws.specs.Agreement.{HasOneList, ParsesDerived, ParsesScripts, ParsesTexts, FaultsExactly};
@@ -31,7 +33,7 @@ pub fn what_is_parsed_of_a_text_is_derived()
 {}
 
 /// The place of a text's fault is exact: the tokens before it begin some script, and no script goes on with its token; of
-/// a fault of nesting, no script in which parts nest at most to the limit.
+/// a fault of nesting, no script in which parts nest at most to the limit, and some deeper script does.
 pub fn faults_are_exact()
     ensures { FaultsExactly }
 {}
