@@ -10,6 +10,5 @@ pub use fault::ResumeFault;
 pub use world::World;
 pub use yielding::Yield;
 
-
 #[cfg(test)]
 mod tests;
