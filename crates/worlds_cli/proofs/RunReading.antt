@@ -134,23 +134,28 @@ module _ (files : Option Files) (app events : List ℕ) where
               ∙ ap (λ b. first_refusal (unplayed_if b events ∷ [])) is
 
     -- A line has an effect, which isn't played yet.
-    pub stops_unplayed : (heard : IfSome files (λ f. (events_refusal f events ≡ None) × (is_eventful f events ≡ true))) (A : Type 0) (status : Status)
+    pub stops_unplayed : (eventful : Bool) → eventful ≡ true
+        → (heard : IfSome files (λ f. (events_refusal f events ≡ None) × (is_eventful f events ≡ eventful))) (A : Type 0) (status : Status)
         → IsOrMemory status (Script events 0 NotBuilt) → Stops files (run app events) A status
-    stops_unplayed heard A status (inl e) =
+    stops_unplayed eventful yes heard A status (inl e) =
         subst (λ s. Stops files (run app events) A s) (sym e)
-        (over files _ _ (λ f h. answer-refused f (run app events) (Script events 0 NotBuilt) h) (first true heard))
-    stops_unplayed heard A status (inr e) = subst (λ s. Stops files (run app events) A s) (sym e) tt
+        (over files _ _ (λ f h. answer-refused f (run app events) (Script events 0 NotBuilt)
+        (h ∙ ap (λ b. first_refusal (unplayed_if b events ∷ [])) yes)) (first eventful heard))
+    stops_unplayed eventful yes heard A status (inr e) = subst (λ s. Stops files (run app events) A s) (sym e) tt
 
     -- All is played.
-    pub accepts : (heard : IfSome files (λ f. (events_refusal f events ≡ None) × (is_eventful f events ≡ false)))
+    pub accepts : (eventful : Bool) → eventful ≡ false
+        → (heard : IfSome files (λ f. (events_refusal f events ≡ None) × (is_eventful f events ≡ eventful)))
         → IfSome files (λ f. answer_to f (run app events) ≡ Ok (printed_log (log_of (application_spelled texts))))
     unfolding answer_to output
-    accepts heard = both files _ _ _ step read (first false heard)
+    accepts eventful no heard = both files _ _ _ step read (first eventful heard)
       where
-        step : (f : Files) → app_of f app ≡ Ok texts → first_refusal (checks f (run app events)) ≡ None
+        step : (f : Files) → app_of f app ≡ Ok texts
+            → first_refusal (checks f (run app events)) ≡ first_refusal (unplayed_if eventful events ∷ [])
             → answer_to f (run app events) ≡ Ok (printed_log (log_of (application_spelled texts)))
-        step f e none =
-            ap (λ r. option_map_or (λ s. Err s) r (Ok (output f (run app events)))) none
+        step f e same =
+            ap (λ r. option_map_or (λ s. Err s) r (Ok (output f (run app events))))
+            (same ∙ ap (λ b. first_refusal (unplayed_if b events ∷ [])) no)
             ∙ ap (λ t. Ok (printed_log (log_of (application_spelled t)))) (app-read f app texts e).1
 
 -- ---- the event script

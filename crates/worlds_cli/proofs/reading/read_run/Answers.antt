@@ -22,12 +22,12 @@ returns-in-Err-read_events-clause-err g c =
     (stops_events files c.args.app.now c.args.script.now (texts_of c.in-Ok.read) c.in-Ok.ensures.ok _ c.in-Err-read_events.status
     (rw c.in-Ok.ensures.files at c.in-Err-read_events.ensures.err))
 
-pub returns-then-clause-err : goal.returns-then-clause-err
-returns-then-clause-err g c =
+pub returns-then-eventful-clause-err : goal.returns-then-eventful-clause-err
+returns-then-eventful-clause-err g c =
     stops_unplayed (g.F.Folder.files c.args.folder.now) c.args.app.now c.args.script.now (texts_of c.in-Ok.read) c.in-Ok.ensures.ok
-    (rw c.in-Ok.ensures.files at c.in-Ok-read_events.ensures.ok) _ _ c.not_built.ensures
+    c.in-Ok-read_events.eventful c.if-eventful.true (rw c.in-Ok.ensures.files at c.in-Ok-read_events.ensures.ok) _ _ c.not_built.ensures
 
 pub returns-clause-ok : goal.returns-clause-ok
 returns-clause-ok g c =
     accepts (g.F.Folder.files c.args.folder.now) c.args.app.now c.args.script.now (texts_of c.in-Ok.read) c.in-Ok.ensures.ok
-    (rw c.in-Ok.ensures.files at c.in-Ok-read_events.ensures.ok)
+    c.in-Ok-read_events.eventful c.if-eventful.false (rw c.in-Ok.ensures.files at c.in-Ok-read_events.ensures.ok)
