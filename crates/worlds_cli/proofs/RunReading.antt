@@ -137,25 +137,25 @@ module _ (files : Option Files) (app events : List ℕ) where
     pub stops_unplayed : (eventful : Bool) → eventful ≡ true
         → (heard : IfSome files (λ f. (events_refusal f events ≡ None) × (is_eventful f events ≡ eventful))) (A : Type 0) (status : Status)
         → IsOrMemory status (Script events 0 NotBuilt) → Stops files (run app events) A status
-    stops_unplayed eventful yes heard A status (inl e) =
+    stops_unplayed eventful is heard A status (inl e) =
         subst (λ s. Stops files (run app events) A s) (sym e)
         (over files _ _ (λ f h. answer-refused f (run app events) (Script events 0 NotBuilt)
-        (h ∙ ap (λ b. first_refusal (unplayed_if b events ∷ [])) yes)) (first eventful heard))
-    stops_unplayed eventful yes heard A status (inr e) = subst (λ s. Stops files (run app events) A s) (sym e) tt
+        (h ∙ ap (λ b. first_refusal (unplayed_if b events ∷ [])) is)) (first eventful heard))
+    stops_unplayed eventful is heard A status (inr e) = subst (λ s. Stops files (run app events) A s) (sym e) tt
 
     -- All is played.
     pub accepts : (eventful : Bool) → eventful ≡ false
         → (heard : IfSome files (λ f. (events_refusal f events ≡ None) × (is_eventful f events ≡ eventful)))
         → IfSome files (λ f. answer_to f (run app events) ≡ Ok (printed_log (log_of (application_spelled texts))))
     unfolding answer_to output
-    accepts eventful no heard = both files _ _ _ step read (first eventful heard)
+    accepts eventful is heard = both files _ _ _ step read (first eventful heard)
       where
         step : (f : Files) → app_of f app ≡ Ok texts
             → first_refusal (checks f (run app events)) ≡ first_refusal (unplayed_if eventful events ∷ [])
             → answer_to f (run app events) ≡ Ok (printed_log (log_of (application_spelled texts)))
         step f e same =
             ap (λ r. option_map_or (λ s. Err s) r (Ok (output f (run app events))))
-            (same ∙ ap (λ b. first_refusal (unplayed_if b events ∷ [])) no)
+            (same ∙ ap (λ b. first_refusal (unplayed_if b events ∷ [])) is)
             ∙ ap (λ t. Ok (printed_log (log_of (application_spelled t)))) (app-read f app texts e).1
 
 -- ---- the event script
