@@ -68,8 +68,9 @@ fn all_below(ids: &[u32], count: u32) -> bool
     ids.iter().all(|id| *id < count)
 }
 
+/// Adds a node to the tree and tells its place.
 #[tactic(auto, unfolding(js_tree::specs::Nodes::StandsBelow))]
-pub fn put(alloc: Global, tree: &mut Tree, node: Node) -> Result<NodeId, Fail> {
+pub(crate) fn put(alloc: Global, tree: &mut Tree, node: Node) -> Result<NodeId, Fail> {
     let mut ids = Vec::new(alloc);
     push_children(&mut ids, &node)?;
     let count = tree.len();
@@ -290,7 +291,8 @@ fn expression_node(alloc: Global, open: &mut Vec<NodeId>, part: &Part) -> Result
     }
 }
 
-pub fn tree_of(alloc: Global, parts: &[Part]) -> Result<Tree, Fail> {
+/// The tree that a list of parts spells, each part after its children.
+pub(crate) fn tree_of(alloc: Global, parts: &[Part]) -> Result<Tree, Fail> {
     let mut tree = Tree::new(alloc);
     let mut open = Vec::new(alloc);
     for part in parts {
