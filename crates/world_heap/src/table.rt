@@ -12,20 +12,48 @@ use std::marker::Model;
 use wl_text::Units;
 
 /// Values under names, seen as the list of both in the order in which the names were first put. No name stands twice.
+/// A table that no name was put into takes one word beside its allocator, since most cells have none.
 #[derive(Drop)]
 pub struct Table<V> {
-    entries: IndexMap<Units, V>,
+    alloc: Global,
+    // none before the first name
+    entries: Option<Box<IndexMap<Units, V>>>,
 }
 
 impl<V> Model for Table<V> {
-    ghost use Rattle.std.specs.Prelude.{List, ℕ};
+    ghost use Rattle.std.specs.Prelude.{List, ℕ, []};
     ghost use Rattle.std.specs.Coded.{coded_list, coded×, coded_ℕ};
 
     ghost Value = { List (List ℕ × V) };
 
     ghost coded = { coded_list (coded× (coded_list coded_ℕ) V.code) };
 
-    ghost view = { λ table. table.entries.entries };
+    ghost use Rattle.std.specs.Option.{option_map_or};
+
+    ghost view = { λ table. option_map_or (λ map. map.value.entries) table.entries [] };
+}
+
+// The name at a place of a map.
+fn name_in<V>(map: &IndexMap<Units, V>, at: usize) -> &Units
+    requires { at < length map.now.entries }
+    ensures { slice_get (keys_of map.now.entries) at ≡ Some result.now }
+{
+    match map.get_index(at) {
+        Some((name, _)) => name,
+        None => unreachable!(),
+    }
+}
+
+// Puts a value in the place of another in a map.
+fn replace_in<V>(map: &mut IndexMap<Units, V>, at: usize, value: V) -> V
+    requires { at < length map.old.entries }
+    ensures was { slice_get (values_of map.old.entries) at ≡ Some result }
+    ensures is { map.new.entries ≡ set_value_at map.old.entries at value }
+{
+    match map.get_index_mut(at) {
+        Some(place) => std::mem::replace(place, value),
+        None => unreachable!(),
+    }
 }
 
 impl<V> Table<V> {
@@ -34,7 +62,8 @@ impl<V> Table<V> {
         ensures { result ≡ [] }
     {
         Table {
-            entries: IndexMap::new(alloc),
+            alloc,
+            entries: None,
         }
     }
 
@@ -43,7 +72,10 @@ impl<V> Table<V> {
         ensures count { result ≡ length self.now }
         ensures distinct { HasDistinctNames self.now }
     {
-        self.entries.len()
+        match &self.entries {
+            Some(map) => map.len(),
+            None => 0,
+        }
     }
 
     /// The name at a place, in the order in which the names were first put.
@@ -51,8 +83,8 @@ impl<V> Table<V> {
         requires { at < length self.now }
         ensures { slice_get (keys_of self.now) at ≡ Some result.now }
     {
-        match self.entries.get_index(at) {
-            Some((name, _)) => name,
+        match &self.entries {
+            Some(map) => name_in(map, at),
             None => unreachable!(),
         }
     }
@@ -61,7 +93,10 @@ impl<V> Table<V> {
     pub fn get(&self, name: &Units) -> Option<&V>
         ensures { option_copied result ≡ found_under self.now name.now }
     {
-        self.entries.get(name)
+        match &self.entries {
+            Some(map) => map.get(name),
+            None => None,
+        }
     }
 }
 
@@ -72,8 +107,18 @@ impl<V: Drop> Table<V> {
         ensures ok { OnOk result (self.new ≡ put_under self.old name value) }
         ensures err { OnErr result (self.new ≡ self.old) }
     {
-        self.entries.insert(name, value)?;
-        Ok(())
+        match &mut self.entries {
+            Some(map) => {
+                map.insert(name, value)?;
+                Ok(())
+            }
+            None => {
+                let mut map = IndexMap::new(self.alloc);
+                map.insert(name, value)?;
+                self.entries = Some(Box::new(self.alloc, map)?);
+                Ok(())
+            }
+        }
     }
 
     /// Puts a value in the place of the one under the name at a place, and gives that one back. It takes no memory.
@@ -82,8 +127,8 @@ impl<V: Drop> Table<V> {
         ensures was { slice_get (values_of self.old) at ≡ Some result }
         ensures is { self.new ≡ set_value_at self.old at value }
     {
-        match self.entries.get_index_mut(at) {
-            Some(place) => std::mem::replace(place, value),
+        match &mut self.entries {
+            Some(map) => replace_in(map, at, value),
             None => unreachable!(),
         }
     }
@@ -92,6 +137,11 @@ impl<V: Drop> Table<V> {
     pub fn remove(&mut self, name: &Units)
         ensures { self.new ≡ left_without self.old name.now }
     {
-        let _ = self.entries.shift_remove(name);
+        match &mut self.entries {
+            Some(map) => {
+                let _ = map.shift_remove(name);
+            }
+            None => {}
+        }
     }
 }
