@@ -5,7 +5,7 @@ ghost use Rattle.js_machine.specs.Does.{Does};
 ghost use Rattle.js_machine.specs.Frames.{after_rest};
 
 use crate::types::give_type;
-use js_machine::{AfterFrame, Next, State, discard};
+use js_machine::{AfterFrame, Next, State};
 use js_semantics::{Outcome, StepFault};
 use world_heap::Value;
 
@@ -14,14 +14,6 @@ pub fn after_give(state: &mut State, value: Value) -> Result<Next, StepFault>
     ensures { (nodes : List kind.Node) → IfOk result (λ next. Does nodes 4 (after_rest nodes AfterFrame.Give value) state.old state.new next) }
 {
     state.give(Outcome::Normal(value))
-}
-
-/// This value is that of the row; what the setter gave is let go.
-pub fn after_result(state: &mut State, kept: Value, value: Value) -> Result<Next, StepFault>
-    ensures { (nodes : List kind.Node) → IfOk result (λ next. Does nodes 4 (after_rest nodes (AfterFrame.Result kept) value) state.old state.new next) }
-{
-    discard(value);
-    state.give(Outcome::Normal(kept))
 }
 
 /// `typeof` with the value that was read of a name.

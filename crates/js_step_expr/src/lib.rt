@@ -19,7 +19,7 @@ mod template;
 mod types;
 mod unary;
 
-pub use after::{after_give, after_result, after_typeof};
+pub use after::{after_give, after_typeof};
 pub use binary::{apply, binary_left, binary_right, row_binary};
 pub use choice::{
     and_left, cond_test, nullish_left, or_left, row_and, row_cond, row_nullish, row_or, row_seq,
