@@ -6,3 +6,4 @@ pub mod OrderlyStatements
 pub mod OrderlyRows
 pub mod Turning
 pub mod Sizing
+pub mod Taking

@@ -3,4 +3,4 @@
 
 mod laws;
 
-pub use laws::{one_size, yielding};
+pub use laws::{fitting, one_size, yielding};
