@@ -1,5 +1,5 @@
 -- What fits a heap fits one that goes on from it, and what a closed state goes on to.
-use Rattle.std.proofs.Common.{◌≡◌, ℕ, ◌<◌, Bool, true, false, List, ◌++◌, Option, Some, None, option_to_list, Result, Ok, Err, MatchResult, IsSomeAnd, nat_eq, slice_get, if◌then◌else◌, refl, sym, ap, ◌∙◌, subst, append-nil, arith}
+use Rattle.std.proofs.Common.{◌≡◌, ℕ, ◌≤◌, ◌<◌, Bool, true, false, List, ◌++◌, Option, Some, None, option_to_list, Result, Ok, Err, MatchResult, IsSomeAnd, nat_eq, slice_get, if◌then◌else◌, refl, sym, ap, ◌∙◌, subst, append-nil, arith}
 use Rattle.std.proofs.lemmas.Bool.Decides.{nat_tests}
 use Rattle.js_tree.specs.declared.node.NodeId.{NodeId}
 use Rattle.js_tree.specs.declared.node.Node.{Node}
@@ -8,6 +8,7 @@ use Rattle.world_log.specs.declared.entry.Stop.TheVariants as stops
 use Rattle.world_heap.specs.declared.value.Value.{Value}
 use Rattle.world_heap.specs.declared.cell.Cell.{Cell}
 use Rattle.world_heap.specs.declared.builtin.BuiltIn.{BuiltIn}
+use Rattle.world_heap.specs.declared.builtin.BuiltIn.TheVariants as built
 use Rattle.world_heap.specs.BuiltIns.{place_of}
 use Rattle.world_heap.specs.Maps.{keys, find, find-push}
 use Rattle.world_heap.specs.Over.{ListOver, OptionOver, ValueOver, list_more, value_more}
@@ -20,10 +21,12 @@ use Rattle.js_semantics.specs.declared.fault.StepFault.{StepFault}
 use Rattle.js_semantics.specs.declared.fault.StepFault.TheVariants.{Memory}
 use Rattle.js_semantics.specs.Faults.{kind_number, prototype_of_kind}
 use Rattle.js_semantics.specs.Prog.{error_cell}
+use Rattle.js_semantics.specs.Realm.{realm_length}
 use Rattle.js_semantics.specs.World.{built_in}
 use Rattle.parcel.specs.declared.parcel.ErrorKind.{ErrorKind}
 use Rattle.parcel.specs.declared.parcel.ErrorKind.TheVariants as errors
 use Rattle.world_kind.specs.declared.WorldKind.{WorldKind}
+use Rattle.world_kind.specs.declared.WorldKind.TheVariants as worlds
 use Rattle.world_heap.specs.Views.{HeapView}
 use Rattle.js_names.specs.Growing.{Grows, IsOpen}
 use Rattle.js_names.proofs.Growing.{grows_not, grows_on, grows_push, cell_grown, place_grown}
@@ -201,11 +204,11 @@ module _ (nodes : List Node) (old new : List (ℕ × Cell ℕ)) (grows : Grows o
   control_grown c h = control_more (IsNoEnv nat_eq old) (IsNoEnv nat_eq new) grows.no_env (IsCell nat_eq old) (IsCell nat_eq new) (cell_grown old new grows) (IsOpen old) (IsOpen new) grows.open_array (IsNamed nodes) c h
 
 -- another heap that goes on, with the same frames and the same that is next
-pub closed_grown : (nodes : List Node) (old new : State) → IsClosed nodes old → Grows old.heap.cells new.heap.cells → new.frames.items ≡ old.frames.items → new.control ≡ old.control → GoesOn nodes old new
-closed_grown nodes old new closed grows same next = record {
+pub closed_grown : (nodes : List Node) (old new : State) → IsClosed nodes old → Grows old.heap.cells new.heap.cells → new.frames.items ≡ old.frames.items → new.control ≡ old.control → new.kind ≡ old.kind → GoesOn nodes old new
+closed_grown nodes old new closed grows same next kind = record {
   closed = record {
     well = grows.well closed.well;
-    realm = λ name. place_grown old.heap.cells new.heap.cells grows (place_of name) (closed.realm name);
+    realm = rw kind (λ place below. place_grown old.heap.cells new.heap.cells grows place (closed.realm place below));
     frames = rw same (list_more (FrameFits nodes old.heap.cells) (FrameFits nodes new.heap.cells) (frame_grown nodes old.heap.cells new.heap.cells grows) old.frames.items closed.frames);
     control = rw next (control_grown nodes old.heap.cells new.heap.cells grows old.control closed.control);
   };
@@ -227,25 +230,6 @@ pub lasts_on : {A : Type 0} (nodes : List Node) (old mid new : State) (r : Resul
 lasts_on nodes old mid new (Ok x) f g = goes_on nodes old mid new f g
 lasts_on nodes old mid new (Err fault) f is = is
 
--- the same, where what is next is new, and so are the steps left
-pub closed_turned : (nodes : List Node) (old mid : State) (steps : ℕ) (control : Control ℕ) → GoesOn nodes old mid → ControlFits nodes old.heap.cells control → GoesOn nodes old (record mid { steps = steps; control = control })
-closed_turned nodes old mid steps control went fit = record {
-  closed = record { well = went.closed.well; realm = went.closed.realm; frames = went.closed.frames; control = control_grown nodes old.heap.cells mid.heap.cells went.grows control fit };
-  grows = went.grows;
-}
-
--- a frame is left, where there is one
-pub closed_push : (nodes : List Node) (old new : State) (frame : Option (Frame ℕ)) → IsClosed nodes old → OptionOver (FrameFits nodes old.heap.cells) frame → new.frames.items ≡ old.frames.items ++ option_to_list frame → new ≡ record old { frames = new.frames } → GoesOn nodes old new
-closed_push nodes old new frame closed fit pushed is =
-    rw is (record {
-      closed = record { well = closed.well; realm = closed.realm; frames = rw pushed (by frame fit); control = closed.control };
-      grows = grows_not old.heap.cells;
-    })
-  where
-    by : (o : Option (Frame ℕ)) → OptionOver (FrameFits nodes old.heap.cells) o → ListOver (FrameFits nodes old.heap.cells) (old.frames.items ++ option_to_list o)
-    by None h = rw append-nil closed.frames
-    by (Some f) h = list_push (FrameFits nodes old.heap.cells) old.frames.items f closed.frames h
-
 -- a step is taken
 pub closed_step : (nodes : List Node) (old new : State) (taken : Bool) → IsClosed nodes old → StepsDown old new taken → GoesOn nodes old new
 closed_step nodes old new true closed (some, is) = rw is (record { closed = closed; grows = grows_not old.heap.cells })
@@ -259,7 +243,7 @@ closed_units nodes units old new false closed (full, is) = rw is (closed_control
 -- a cell is made
 module _ (cell : Cell ℕ) (old new : State) (loc : ℕ) (made : Allocates cell old new (Ok loc)) where
   pub closed_made : (nodes : List Node) → IsClosed nodes old → Fits nat_eq old.heap.cells cell → GoesOn nodes old new
-  closed_made nodes closed fit = closed_grown nodes old new closed (rw made.2 (grows_push old.heap.cells loc cell made.3 fit)) (ap (λ s. s.frames.items) made.2) (ap (λ s. s.control) made.2)
+  closed_made nodes closed fit = closed_grown nodes old new closed (rw made.2 (grows_push old.heap.cells loc cell made.3 fit)) (ap (λ s. s.frames.items) made.2) (ap (λ s. s.control) made.2) (ap (λ s. s.kind) made.2)
 
   pub made_found : find nat_eq new.heap.cells loc ≡ Some cell
   made_found =
@@ -289,10 +273,36 @@ some_option : (P : ℕ → Type 0) (o : Option ℕ) → IsSomeAnd o P → Option
 some_option P None h = absurd h
 some_option P (Some l) h = h
 
+place_below : (name : BuiltIn) → place_of name < 17
+place_below built.ObjectPrototype = omega arith
+place_below built.ErrorPrototype = omega arith
+place_below built.EvalErrorPrototype = omega arith
+place_below built.RangeErrorPrototype = omega arith
+place_below built.ReferenceErrorPrototype = omega arith
+place_below built.SyntaxErrorPrototype = omega arith
+place_below built.TypeErrorPrototype = omega arith
+place_below built.URIErrorPrototype = omega arith
+place_below built.FunctionPrototype = omega arith
+place_below built.ArrayPrototype = omega arith
+place_below built.StringPrototype = omega arith
+place_below built.MapPrototype = omega arith
+place_below built.SetPrototype = omega arith
+place_below built.PromisePrototype = omega arith
+place_below built.ArrayBufferPrototype = omega arith
+place_below built.Uint8ArrayPrototype = omega arith
+place_below built.Global = omega arith
+
+realm_above : (kind : WorldKind) → 17 ≤ realm_length kind
+realm_above worlds.Main = omega arith
+realm_above worlds.Preload = omega arith
+realm_above worlds.Page = omega arith
+
 -- a built-in cell stands
 pub built_in_fits : (nodes : List Node) (supply : ℕ → ℕ) (s : State) (name : BuiltIn) → IsClosed nodes s → OptionOver (IsNoEnv nat_eq s.heap.cells) (built_in name (world_of nodes supply s))
 built_in_fits nodes supply s name closed =
-    subst (λ o. OptionOver (IsNoEnv nat_eq s.heap.cells) o) (keys_at s.heap.cells (place_of name)) (some_option (IsNoEnv nat_eq s.heap.cells) (slice_get (keys s.heap.cells) (place_of name)) (closed.realm name))
+    let one = place_below name in
+    let all = realm_above s.kind in
+    subst (λ o. OptionOver (IsNoEnv nat_eq s.heap.cells) o) (keys_at s.heap.cells (place_of name)) (some_option (IsNoEnv nat_eq s.heap.cells) (slice_get (keys s.heap.cells) (place_of name)) (closed.realm (place_of name) (omega arith)))
 
 below_seven : (kind : ErrorKind) → kind_number kind < 7
 below_seven errors.Error = omega arith
@@ -323,10 +333,10 @@ module _ (nodes : List Node) (kind : ErrorKind) (message : Option (List ℕ)) (o
   error_stopped stop made = closed_stopped nodes (error_cell kind message (world_of nodes (λ n. n) old)) old new stop closed (made (λ n. n))
 
 -- a new state
-pub closed_fresh : (nodes : List Node) (kind : WorldKind) (heap : HeapView) (s : State) → IsFresh kind heap s → IsWell nat_eq heap.cells → HasRealm heap.cells → IsClosed nodes s
+pub closed_fresh : (nodes : List Node) (kind : WorldKind) (heap : HeapView) (s : State) → IsFresh kind heap s → IsWell nat_eq heap.cells → HasRealm kind heap.cells → IsClosed nodes s
 closed_fresh nodes kind heap s (same, none, next, steps, depth, is, loaded) well realm = record {
   well = rw same well;
-  realm = λ name. rw same (realm name);
+  realm = rw (same, is) realm;
   frames = rw none tt;
   control = rw next tt;
 }

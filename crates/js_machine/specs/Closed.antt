@@ -1,13 +1,12 @@
 -- A state that is closed: each location that it holds is one of its heap. So none of its rows meets one that stands
 -- nowhere.
-use Rattle.std.specs.Prelude.{◌≡◌, ℕ, nat_eq, List, Option, Some, Result, Ok, Err, IsSomeAnd, slice_get}
+use Rattle.std.specs.Prelude.{◌≡◌, ℕ, ◌<◌, nat_eq, List, Option, Some, Result, Ok, Err, IsSomeAnd, slice_get}
 use Rattle.js_tree.specs.declared.node.NodeId.{NodeId}
 use Rattle.js_tree.specs.declared.node.Node.{Node}
 use Rattle.js_tree.specs.declared.node.Node.TheVariants as kinds
 use Rattle.world_heap.specs.declared.value.Value.{Value}
 use Rattle.world_heap.specs.declared.cell.Cell.{Cell}
-use Rattle.world_heap.specs.declared.builtin.BuiltIn.{BuiltIn}
-use Rattle.world_heap.specs.BuiltIns.{place_of}
+use Rattle.world_kind.specs.declared.WorldKind.{WorldKind}
 use Rattle.world_heap.specs.Maps.{keys}
 use Rattle.world_heap.specs.Over.{ListOver, ValueOver}
 use Rattle.world_heap.specs.Heaps.{IsCell, IsNoEnv, IsWell}
@@ -16,6 +15,7 @@ use Rattle.js_semantics.specs.declared.outcome.Outcome.{Outcome}
 use Rattle.js_semantics.specs.declared.outcome.Outcome.TheVariants.{Normal, Return, Break, Continue, Thrown}
 use Rattle.js_semantics.specs.declared.fault.StepFault.{StepFault}
 use Rattle.js_semantics.specs.declared.fault.StepFault.TheVariants.{Memory}
+use Rattle.js_semantics.specs.Realm.{realm_length}
 use Rattle.js_names.specs.Growing.{Grows, IsOpen}
 use Rattle.js_machine.specs.declared.frame.Key.{Key}
 use Rattle.js_machine.specs.declared.frame.Key.TheVariants.{Named, Text}
@@ -208,29 +208,29 @@ module _ (nodes : List Node) (cells : List (ℕ × Cell ℕ)) where
   abbrev pub ControlFits : Control ℕ → Type 0
   ControlFits c = ControlOver (IsNoEnv nat_eq cells) (IsCell nat_eq cells) (IsOpen cells) (IsNamed nodes) c
 
--- the built-in cells stand (ECMA-262, 9.3.2)
-abbrev pub HasRealm : List (ℕ × Cell ℕ) → Type 0
-HasRealm cells = (name : BuiltIn) → IsSomeAnd (slice_get (keys cells) (place_of name)) (λ l. IsNoEnv nat_eq cells l)
+-- the built-in cells of a kind of world stand, and none is an environment (ECMA-262, 9.3.2)
+abbrev pub HasRealm : WorldKind → List (ℕ × Cell ℕ) → Type 0
+HasRealm kind cells = (place : ℕ) → place < realm_length kind → IsSomeAnd (slice_get (keys cells) place) (λ l. IsNoEnv nat_eq cells l)
 
 -- Built-in cells, frames and what is next, all of which fit a heap that is well.
-pub record AllFit (nodes : List Node) (cells : List (ℕ × Cell ℕ)) (rows : List (Frame ℕ)) (next : Control ℕ) : Type 0 where
+pub record AllFit (nodes : List Node) (kind : WorldKind) (cells : List (ℕ × Cell ℕ)) (rows : List (Frame ℕ)) (next : Control ℕ) : Type 0 where
   pub well : IsWell nat_eq cells
-  pub realm : HasRealm cells
+  pub realm : HasRealm kind cells
   pub frames : ListOver (FrameFits nodes cells) rows
   pub control : ControlFits nodes cells next
 
 -- a closed state: all that it holds fits its heap
 abbrev pub IsClosed : List Node → State → Type 0
-IsClosed nodes s = AllFit nodes s.heap.cells s.frames.items s.control
+IsClosed nodes s = AllFit nodes s.kind s.heap.cells s.frames.items s.control
 
 -- what fits, over cells that have grown
-pub record FitOn (nodes : List Node) (old cells : List (ℕ × Cell ℕ)) (rows : List (Frame ℕ)) (next : Control ℕ) : Type 0 where
-  pub closed : AllFit nodes cells rows next
+pub record FitOn (nodes : List Node) (kind : WorldKind) (old cells : List (ℕ × Cell ℕ)) (rows : List (Frame ℕ)) (next : Control ℕ) : Type 0 where
+  pub closed : AllFit nodes kind cells rows next
   pub grows : Grows old cells
 
 -- the new state is closed, and its heap goes on from that of the old one
 abbrev pub GoesOn : List Node → State → State → Type 0
-GoesOn nodes old new = FitOn nodes old.heap.cells new.heap.cells new.frames.items new.control
+GoesOn nodes old new = FitOn nodes new.kind old.heap.cells new.heap.cells new.frames.items new.control
 
 -- What a part of a row answers, from a closed state: it goes on, or memory runs out.
 abbrev pub Lasts : {A : Type 0} → List Node → State → State → Result A StepFault → Type 0
