@@ -1,19 +1,17 @@
 -- How cells are made, and places and units counted.
-use Rattle.std.proofs.Common.{◌≡◌, ◌≢◌, ℕ, suc, zero, ◌+◌, ◌*◌, ◌-◌, ◌≤◌, ◌<◌, List, [], ◌∷◌, ◌++◌, length, Option, Some, None, Bool, true, false, if◌then◌else◌, IfOk, Result, Ok, Err, nat_lt, nat_eq, refl, sym, ap, ◌∙◌, arith}
-use Rattle.std.proofs.lemmas.Result.{IfOk-weaker}
+use Rattle.std.proofs.Common.{◌≡◌, ◌≢◌, ℕ, suc, zero, ◌+◌, ◌*◌, ◌-◌, ◌≤◌, ◌<◌, List, [], ◌∷◌, ◌++◌, length, Some, None, Bool, true, false, if◌then◌else◌, IfOk, Result, Ok, Err, nat_lt, refl, sym, ap, ◌∙◌, arith}
 use Rattle.std.proofs.lemmas.Bool.Decides.{nat_tests}
 use Rattle.js_tree.specs.declared.node.Node.{Node}
 use Rattle.world_heap.specs.declared.cell.Cell.{Cell}
 use Rattle.world_heap.specs.declared.cell.Cell.TheVariants.{Object, Array, Closure, Native, Far, Error, Map, Set, Promise, Port, Buffer, View, Symbol, Env}
 use Rattle.world_heap.specs.declared.limits.Counts.{Counts}
-use Rattle.world_heap.specs.declared.limits.HeapFault.{HeapFault}
 use Rattle.world_heap.specs.declared.limits.HeapFault.TheVariants as full
 use Rattle.world_heap.specs.Heaps.{places_of, units_of}
-use Rattle.world_heap.specs.Views.{Bounds, HeapView}
-use Rattle.world_heap.specs.Growth.{first_full, counts_with, grown}
+use Rattle.world_heap.specs.Views.{Bounds}
+use Rattle.world_heap.specs.Growth.{first_full, counts_with}
 use Rattle.js_semantics.specs.declared.fault.StepFault.{StepFault}
 use Rattle.js_semantics.specs.World.{World, limited}
-use Rattle.js_semantics.specs.Prog.{Prog, Cont, Over, End, Read, Write, Place, Make, bind, alloc, placed, halt, with_new, count_places, count_units}
+use Rattle.js_semantics.specs.Prog.{Prog, Read, Write, bind, alloc, placed, halt, with_new, count_places, count_units}
 use Rattle.js_semantics.specs.Run.{Arrival, Budget, Then, Cut, receive, run}
 use Rattle.world_log.specs.declared.entry.Entry.TheVariants as entry
 use Rattle.world_log.specs.declared.entry.Product.TheVariants.{Stopped}
@@ -21,11 +19,10 @@ use Rattle.world_log.specs.declared.entry.Stop.{Stop}
 use Rattle.world_log.specs.declared.entry.Stop.TheVariants.{Fuel, Cells, Places, Units}
 use Rattle.js_semantics.proofs.Programs.{places_some, place_some, place_none, count_bind}
 use Rattle.js_machine.specs.declared.state.State.{State}
-use Rattle.js_machine.specs.declared.state.Control.TheVariants as controls
 use Rattle.js_machine.specs.declared.state.Next.{Next}
-use Rattle.js_machine.specs.declared.state.Next.TheVariants.{Go, Made}
-use Rattle.js_machine.specs.Does.{Follows, world_of, budget_of, stack_rest, to_come, after, weights, work, left, Stays, Does, Moves, Allocates, CountsUnits}
-use Rattle.js_machine.proofs.Doing.{does_move, does_move_ok}
+use Rattle.js_machine.specs.declared.state.Next.TheVariants.{Made}
+use Rattle.js_machine.specs.Does.{Follows, world_of, budget_of, stack_rest, to_come, after, weights, work, left, Does, Moves, Allocates, CountsUnits}
+use Rattle.js_machine.proofs.Doing.{does_move_ok}
 
 -- the first locations follow the supply, and so does the last
 pub follows_push : (supply : ℕ → ℕ) (n : ℕ) (cells : List (ℕ × Cell ℕ)) (loc : ℕ) (cell : Cell ℕ) → Follows supply n (cells ++ (loc, cell) ∷ []) → Follows supply n cells × (loc ≡ supply (n + length cells))
@@ -77,7 +74,7 @@ limited_none supply n cells h =
 -- a cell is made
 pub moves_alloc : (nodes : List Node) (cell : Cell ℕ) (k : ℕ → Prog ℕ) (old mid : State) (loc : ℕ) → units_of cell ≡ 0 → Allocates cell old mid (Ok loc) → Moves nodes (alloc cell k) old (k loc) mid
 unfolding alloc run
-moves_alloc nodes cell k old mid loc free (counted, room, is) =
+moves_alloc nodes cell k old mid loc free (counted, room, is, fresh) =
     let grew : State = record old { heap = record old.heap { cells = old.heap.cells ++ (loc, cell) ∷ []; counts = counts_with old.heap.counts cell } } in
     let fits = full_none old.heap.limits (counts_with old.heap.counts cell) room in
     let some : places_of cell ≤ old.heap.limits.places - old.heap.counts.places = omega arith in

@@ -1,5 +1,5 @@
 -- How an error is thrown.
-use Rattle.std.proofs.Common.{◌≡◌, ℕ, ◌≤◌, Ok, Err, Some, None, Option, List, true, IfOk, Result, refl}
+use Rattle.std.proofs.Common.{◌≡◌, ℕ, ◌≤◌, Ok, Err, Some, None, Option, List, true, IfOk, Result, nat_eq, refl}
 use Rattle.js_tree.specs.declared.node.Node.{Node}
 use Rattle.world_heap.specs.declared.value.Value.TheVariants.{Ref}
 use Rattle.world_log.specs.declared.entry.Stop.{Stop}
@@ -8,7 +8,10 @@ use Rattle.js_semantics.specs.declared.fault.Fault.{Fault}
 use Rattle.js_semantics.specs.declared.fault.StepFault.{StepFault}
 use Rattle.js_semantics.specs.declared.outcome.Outcome.TheVariants.{Thrown}
 use Rattle.parcel.specs.declared.parcel.ErrorKind.{ErrorKind}
+use Rattle.world_heap.specs.declared.cell.Cell.{Cell}
 use Rattle.world_heap.specs.declared.cell.Cell.TheVariants.{Error}
+use Rattle.world_heap.specs.Heaps.{Fits, IsNoEnv, units_of}
+use Rattle.world_heap.specs.Over.{OptionOver}
 use Rattle.js_semantics.specs.Faults.{kind_number, kind_of, message_of, prototype_of_kind}
 use Rattle.js_semantics.specs.World.{World, built_in}
 use Rattle.js_machine.specs.Parts.{message_entry}
@@ -38,3 +41,13 @@ does_not_throw nodes n fault old new stop some made =
 pub error_is : (kind : ErrorKind) (message : Option (List ℕ)) (w : World ℕ) → error_cell kind message w ≡ Error (record { proto = built_in (prototype_of_kind kind) w; properties = message_entry message; extensible = true }) (kind_number kind)
 error_is kind None w = refl
 error_is kind (Some message) w = refl
+
+-- it takes no units
+pub error_free : (kind : ErrorKind) (message : Option (List ℕ)) (w : World ℕ) → units_of (error_cell kind message w) ≡ 0
+error_free kind None w = refl
+error_free kind (Some message) w = refl
+
+-- and where it may stand, so may its prototype
+pub error_proto : (cells : List (ℕ × Cell ℕ)) (kind : ErrorKind) (message : Option (List ℕ)) (w : World ℕ) → Fits nat_eq cells (error_cell kind message w) → OptionOver (IsNoEnv nat_eq cells) (built_in (prototype_of_kind kind) w)
+error_proto cells kind None w fit = fit.0.0
+error_proto cells kind (Some message) w fit = fit.0.0

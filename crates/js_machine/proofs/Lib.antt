@@ -7,3 +7,4 @@ pub mod Stepping
 pub mod Receiving
 pub mod Lists
 pub mod Changing
+pub mod Closing

@@ -1,18 +1,15 @@
 -- What a part of the machine does.
-use Rattle.std.specs.Prelude.{◌≡◌, ◌≢◌, ℕ, suc, ◌+◌, ◌-◌, ◌*◌, ◌<◌, ◌≤◌, nat_eq, length, map, Bool, true, false, not, IsTrue, List, [], ◌∷◌, ◌++◌, Result, Ok, Err, Option, Some, None}
-use Rattle.std.specs.List.{sum_by}
-use Rattle.js_tree.specs.declared.node.NodeId.{NodeId}
+use Rattle.std.specs.Prelude.{◌≡◌, ◌≢◌, ℕ, suc, ◌+◌, ◌-◌, ◌*◌, ◌<◌, ◌≤◌, nat_eq, length, Bool, true, false, not, List, [], ◌∷◌, ◌++◌, Result, Ok, Err, Option, Some, None}
 use Rattle.js_tree.specs.declared.node.Node.{Node}
 use Rattle.world_heap.specs.declared.cell.Cell.{Cell}
+use Rattle.world_heap.specs.Maps.{keys, stands}
 use Rattle.world_heap.specs.Views.{HeapView}
 use Rattle.world_heap.specs.declared.limits.HeapFault.TheVariants as full
 use Rattle.world_heap.specs.Growth.{first_full, counts_with, grown}
 use Rattle.world_kind.specs.declared.WorldKind.{WorldKind}
 use Rattle.world_log.specs.declared.entry.Delivery.{Delivery}
 use Rattle.world_log.specs.declared.entry.Delivery.TheVariants.{Load}
-use Rattle.world_log.specs.declared.entry.Entry.{Entry}
 use Rattle.world_log.specs.declared.entry.Entry.TheVariants as entry
-use Rattle.js_semantics.specs.declared.mode.Mode.{Mode}
 use Rattle.js_semantics.specs.declared.mode.Mode.TheVariants.{Idle}
 use Rattle.world_log.specs.declared.entry.Product.{Product}
 use Rattle.world_log.specs.declared.entry.Stop.{Stop}
@@ -169,6 +166,7 @@ abbrev pub Allocates : Cell ℕ → State → State → Result ℕ Stop → Type
 Allocates cell old new (Ok loc) = (length old.heap.cells ≡ old.heap.base + old.heap.counts.cells)
     × (first_full old.heap.limits (counts_with old.heap.counts cell) ≡ None)
     × (new ≡ record old { heap = record old.heap { cells = old.heap.cells ++ (loc, cell) ∷ []; counts = counts_with old.heap.counts cell } })
+    × (stands nat_eq (keys old.heap.cells) loc ≡ false)
 Allocates cell old new (Err Cells) = (length old.heap.cells ≡ old.heap.base + old.heap.counts.cells)
     × (first_full old.heap.limits (counts_with old.heap.counts cell) ≡ Some full.Cells) × (new ≡ record old { control = controls.Stop })
 Allocates cell old new (Err Places) = (length old.heap.cells ≡ old.heap.base + old.heap.counts.cells)

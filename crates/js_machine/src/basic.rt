@@ -1,9 +1,12 @@
 //! What the rows are made of: ending a row, and entering what is below it.
-ghost use Rattle.std.specs.Prelude.{◌≡◌, ◌≤◌, ◌++◌, ℕ, List, IfOk, OnOk, Some, None, option_to_list};
+ghost use Rattle.std.specs.Prelude.{◌≡◌, ◌≤◌, ◌++◌, ℕ, List, IfOk, OnOk, Some, None, option_to_list, nat_eq};
 ghost use Rattle.js_tree.specs.declared.node.Node as kind;
 ghost use Rattle.js_semantics.specs.Prog.{Bind, End, Enter, Member, Native, Node as NodeRequest, Request, Script, done};
 ghost use Rattle.js_machine.specs.Frames.{after_rest, rest};
+ghost use Rattle.world_heap.specs.Heaps.{IsNoEnv};
+ghost use Rattle.world_heap.specs.Over.{ListOver, OptionOver};
 ghost use Rattle.js_machine.specs.Does.{Does, IsEntered, StepsDown, under_frame};
+ghost use Rattle.js_machine.specs.Closed.{ControlFits, FrameFits, IsClosed, Lasts, OutcomeFits, ScopeFits, ValueFits};
 
 use crate::frame::{AfterFrame, Frame};
 use crate::state::{Control, Next, State};
@@ -32,10 +35,12 @@ pub fn stopped(stop: Stop) -> Next
 
 impl State {
     /// Ends a row with an outcome.
+    #[tactic(auto, using(crate::proofs::Closing::closed_control))]
     pub fn give(&mut self, outcome: Outcome) -> Result<Next, StepFault>
         ensures few { (nodes : List kind.Node) → IfOk result (λ next. Does nodes 2 (End outcome) self.old self.new next) }
         ensures some { (nodes : List kind.Node) → IfOk result (λ next. Does nodes 4 (End outcome) self.old self.new next) }
         ensures many { (nodes : List kind.Node) → IfOk result (λ next. Does nodes 6 (End outcome) self.old self.new next) }
+        ensures closed { (nodes : List kind.Node) → IsClosed nodes self.old → OutcomeFits nodes self.old.heap.cells outcome → Lasts nodes self.old self.new result }
     {
         self.control = Control::Give(outcome);
         Ok(Next::Go)
@@ -54,6 +59,7 @@ impl State {
     pub fn push(&mut self, frame: Option<Frame>) -> Result<(), StepFault>
         ensures frames { OnOk result (self.new.frames.items ≡ self.old.frames.items ++ option_to_list frame) }
         ensures rest { self.new ≡ record self.old { frames = self.new.frames } }
+        ensures closed { (nodes : List kind.Node) → IsClosed nodes self.old → OptionOver (FrameFits nodes self.old.heap.cells) frame → Lasts nodes self.old self.new result }
     {
         match frame {
             Some(frame) => {
@@ -73,8 +79,10 @@ impl State {
 
     // Takes a step and goes on with what is entered, over a frame where there is one.
     fn go(&mut self, frame: Option<Frame>, control: Control) -> Result<Next, StepFault>
-        ensures { (nodes : List kind.Node) (n : ℕ) (r : Request ℕ) → 2 ≤ n → IsEntered control r
+        ensures does { (nodes : List kind.Node) (n : ℕ) (r : Request ℕ) → 2 ≤ n → IsEntered control r
             → IfOk result (λ next. Does nodes n (Enter r (λ o. under_frame nodes frame o)) self.old self.new next) }
+        ensures closed { (nodes : List kind.Node) → IsClosed nodes self.old → OptionOver (FrameFits nodes self.old.heap.cells) frame → ControlFits nodes self.old.heap.cells control
+            → Lasts nodes self.old self.new result }
     {
         if self.steps == 0 {
             self.control = Control::Stop;
@@ -91,6 +99,8 @@ impl State {
         ensures few { (nodes : List kind.Node) → IfOk result (λ next. Does nodes 2 (Enter (NodeRequest node scope) (λ o. rest nodes frame o)) self.old self.new next) }
         ensures some { (nodes : List kind.Node) → IfOk result (λ next. Does nodes 4 (Enter (NodeRequest node scope) (λ o. rest nodes frame o)) self.old self.new next) }
         ensures many { (nodes : List kind.Node) → IfOk result (λ next. Does nodes 6 (Enter (NodeRequest node scope) (λ o. rest nodes frame o)) self.old self.new next) }
+        ensures closed { (nodes : List kind.Node) → IsClosed nodes self.old → FrameFits nodes self.old.heap.cells frame → ScopeFits nodes self.old.heap.cells scope
+            → Lasts nodes self.old self.new result }
     {
         self.go(Some(frame), Control::Node(node, scope))
     }
@@ -100,6 +110,7 @@ impl State {
         ensures few { (nodes : List kind.Node) → IfOk result (λ next. Does nodes 2 (Enter (NodeRequest node scope) (λ o. End o)) self.old self.new next) }
         ensures some { (nodes : List kind.Node) → IfOk result (λ next. Does nodes 4 (Enter (NodeRequest node scope) (λ o. End o)) self.old self.new next) }
         ensures many { (nodes : List kind.Node) → IfOk result (λ next. Does nodes 6 (Enter (NodeRequest node scope) (λ o. End o)) self.old self.new next) }
+        ensures closed { (nodes : List kind.Node) → IsClosed nodes self.old → ScopeFits nodes self.old.heap.cells scope → Lasts nodes self.old self.new result }
     {
         self.go(None, Control::Node(node, scope))
     }
@@ -115,6 +126,8 @@ impl State {
         ensures few { (nodes : List kind.Node) → IfOk result (λ next. Does nodes 2 (Enter (Bind node value scope) (λ o. rest nodes frame o)) self.old self.new next) }
         ensures some { (nodes : List kind.Node) → IfOk result (λ next. Does nodes 4 (Enter (Bind node value scope) (λ o. rest nodes frame o)) self.old self.new next) }
         ensures many { (nodes : List kind.Node) → IfOk result (λ next. Does nodes 6 (Enter (Bind node value scope) (λ o. rest nodes frame o)) self.old self.new next) }
+        ensures closed { (nodes : List kind.Node) → IsClosed nodes self.old → FrameFits nodes self.old.heap.cells frame → ValueFits self.old.heap.cells value → ScopeFits nodes self.old.heap.cells scope
+            → Lasts nodes self.old self.new result }
     {
         self.go(Some(frame), Control::Bind(node, value, scope))
     }
@@ -129,6 +142,8 @@ impl State {
     ) -> Result<Next, StepFault>
         ensures few { (nodes : List kind.Node) → IfOk result (λ next. Does nodes 2 (Enter (Member node object scope) (λ o. rest nodes frame o)) self.old self.new next) }
         ensures many { (nodes : List kind.Node) → IfOk result (λ next. Does nodes 6 (Enter (Member node object scope) (λ o. rest nodes frame o)) self.old self.new next) }
+        ensures closed { (nodes : List kind.Node) → IsClosed nodes self.old → FrameFits nodes self.old.heap.cells frame → IsNoEnv nat_eq self.old.heap.cells object → ScopeFits nodes self.old.heap.cells scope
+            → Lasts nodes self.old self.new result }
     {
         self.go(Some(frame), Control::Member(node, object, scope))
     }
@@ -144,13 +159,16 @@ impl State {
         ensures few { (nodes : List kind.Node) → IfOk result (λ next. Does nodes 2 (Enter (Native id receiver arguments) (λ o. under_frame nodes frame o)) self.old self.new next) }
         ensures some { (nodes : List kind.Node) → IfOk result (λ next. Does nodes 4 (Enter (Native id receiver arguments) (λ o. under_frame nodes frame o)) self.old self.new next) }
         ensures many { (nodes : List kind.Node) → IfOk result (λ next. Does nodes 6 (Enter (Native id receiver arguments) (λ o. under_frame nodes frame o)) self.old self.new next) }
+        ensures closed { (nodes : List kind.Node) → IsClosed nodes self.old → OptionOver (FrameFits nodes self.old.heap.cells) frame → ValueFits self.old.heap.cells receiver → ListOver (ValueFits self.old.heap.cells) arguments
+            → Lasts nodes self.old self.new result }
     {
         self.go(frame, Control::Native(id, receiver, arguments))
     }
 
     /// Enters the script for a step, and leaves its frame.
     pub fn enter_script(&mut self, root: NodeId) -> Result<Next, StepFault>
-        ensures { (nodes : List kind.Node) → IfOk result (λ next. Does nodes 2 (Enter (Script root) (λ o. rest nodes Frame.Script o)) self.old self.new next) }
+        ensures does { (nodes : List kind.Node) → IfOk result (λ next. Does nodes 2 (Enter (Script root) (λ o. rest nodes Frame.Script o)) self.old self.new next) }
+        ensures closed { (nodes : List kind.Node) → IsClosed nodes self.old → Lasts nodes self.old self.new result }
     {
         self.go(Some(Frame::Script), Control::Script(root))
     }

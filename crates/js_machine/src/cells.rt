@@ -1,5 +1,5 @@
 //! How a row makes cells, and counts units.
-ghost use Rattle.std.specs.Prelude.{◌≡◌, ℕ, [], true, false, List, IfOk, Some, None, codes, nat_eq};
+ghost use Rattle.std.specs.Prelude.{◌≡◌, ℕ, [], true, false, List, MatchResult, Some, None, codes, nat_eq};
 ghost use Rattle.js_tree.specs.declared.node.Node as kind;
 ghost use Rattle.world_heap.specs.Heaps.{Fits, units_of};
 ghost use Rattle.js_semantics.specs.Prog.{error_cell};
@@ -25,9 +25,10 @@ impl State {
     // Makes a cell, or stops.
     fn make(&mut self, cell: Cell) -> Result<Result<Loc, Stop>, StepFault>
         requires { Fits nat_eq self.old.heap.cells cell }
-        ensures { IfOk result (λ got. Allocates cell self.old self.new got) }
+        ensures { MatchResult result (λ got. Allocates cell self.old self.new got) (λ fault. units_of cell ≡ 0 → fault ≡ StepFault.Memory) }
     {
         self.heap.base();
+        self.heap.count();
         match self.heap.add(cell) {
             Ok(loc) => Ok(Ok(loc)),
             Err(HeapFault::Cells) => {
@@ -50,7 +51,7 @@ impl State {
         outer: Option<Loc>,
         bindings: Items<Binding>,
     ) -> Result<Result<Loc, Stop>, StepFault>
-        ensures { IfOk result (λ got. Allocates (Cell.Env outer bindings) self.old self.new got) }
+        ensures { MatchResult result (λ got. Allocates (Cell.Env outer bindings) self.old self.new got) (λ fault. Fits nat_eq self.old.heap.cells (Cell.Env outer bindings) → fault ≡ StepFault.Memory) }
     {
         if is_outer(&self.heap, &outer) && are_fit_bindings(&self.heap, bindings.as_slice()) {
             self.make(environment(outer, bindings))
@@ -62,7 +63,8 @@ impl State {
 
     /// Makes an object without properties, or stops.
     pub fn make_object(&mut self, proto: Option<Loc>) -> Result<Result<Loc, Stop>, StepFault>
-        ensures { IfOk result (λ got. Allocates (Cell.Object (record { proto = proto; properties = []; extensible = true })) self.old self.new got) }
+        ensures { MatchResult result (λ got. Allocates (Cell.Object (record { proto = proto; properties = []; extensible = true })) self.old self.new got)
+            (λ fault. Fits nat_eq self.old.heap.cells (Cell.Object (record { proto = proto; properties = []; extensible = true })) → fault ≡ StepFault.Memory) }
     {
         if is_prototype(&self.heap, &proto) {
             let cell = object(self.alloc, proto);
@@ -81,7 +83,8 @@ impl State {
 
     /// Makes an array of these values, or stops.
     pub fn make_array(&mut self, items: Items<Value>) -> Result<Result<Loc, Stop>, StepFault>
-        ensures { (nodes : List kind.Node) (supply : ℕ → ℕ) → IfOk result (λ got. Allocates (Cell.Array (built_in BuiltIn.ArrayPrototype (world_of nodes supply self.old)) items false) self.old self.new got) }
+        ensures { (nodes : List kind.Node) (supply : ℕ → ℕ) → MatchResult result (λ got. Allocates (Cell.Array (built_in BuiltIn.ArrayPrototype (world_of nodes supply self.old)) items false) self.old self.new got)
+            (λ fault. Fits nat_eq self.old.heap.cells (Cell.Array (built_in BuiltIn.ArrayPrototype (world_of nodes supply self.old)) items false) → fault ≡ StepFault.Memory) }
     {
         let proto = self.built_in(BuiltIn::ArrayPrototype);
         if is_prototype(&self.heap, &proto) && are_fit(&self.heap, items.as_slice()) {
@@ -99,7 +102,8 @@ impl State {
         env: Loc,
         receiver: Option<Value>,
     ) -> Result<Result<Loc, Stop>, StepFault>
-        ensures { (nodes : List kind.Node) (supply : ℕ → ℕ) → IfOk result (λ got. Allocates (Cell.Closure (bare BuiltIn.FunctionPrototype (world_of nodes supply self.old)) node.0 env receiver) self.old self.new got) }
+        ensures { (nodes : List kind.Node) (supply : ℕ → ℕ) → MatchResult result (λ got. Allocates (Cell.Closure (bare BuiltIn.FunctionPrototype (world_of nodes supply self.old)) node.0 env receiver) self.old self.new got)
+            (λ fault. Fits nat_eq self.old.heap.cells (Cell.Closure (bare BuiltIn.FunctionPrototype (world_of nodes supply self.old)) node.0 env receiver) → fault ≡ StepFault.Memory) }
     {
         let proto = self.built_in(BuiltIn::FunctionPrototype);
         if is_prototype(&self.heap, &proto)
@@ -134,7 +138,8 @@ impl State {
         error: ErrorKind,
         message: Option<Units>,
     ) -> Result<Result<Loc, Stop>, StepFault>
-        ensures { (nodes : List kind.Node) (supply : ℕ → ℕ) → IfOk result (λ got. Allocates (error_cell error message (world_of nodes supply self.old)) self.old self.new got) }
+        ensures { (nodes : List kind.Node) (supply : ℕ → ℕ) → MatchResult result (λ got. Allocates (error_cell error message (world_of nodes supply self.old)) self.old self.new got)
+            (λ fault. Fits nat_eq self.old.heap.cells (error_cell error message (world_of nodes supply self.old)) → fault ≡ StepFault.Memory) }
     {
         let proto = self.built_in(error_prototype(error));
         let properties = message_table(self.alloc, message)?;
@@ -182,7 +187,7 @@ const MESSAGE: [u16; 7] = [109, 101, 115, 115, 97, 103, 101];
 
 // The text `message`, as a key.
 fn message_key(alloc: Global) -> Result<Units, StepFault>
-    ensures { IfOk result (λ key. key ≡ codes "message") }
+    ensures { MatchResult result (λ key. key ≡ codes "message") (λ fault. fault ≡ StepFault.Memory) }
 {
     match Units::of_units(alloc, MESSAGE.as_slice()) {
         Ok(key) => Ok(key),
@@ -192,7 +197,7 @@ fn message_key(alloc: Global) -> Result<Units, StepFault>
 
 // The properties of an error with a message, which isn't enumerable.
 fn message_table(alloc: Global, message: Option<Units>) -> Result<Table<Property>, StepFault>
-    ensures { IfOk result (λ table. table ≡ message_entry message) }
+    ensures { MatchResult result (λ table. table ≡ message_entry message) (λ fault. fault ≡ StepFault.Memory) }
 {
     let mut properties = Table::new(alloc);
     match message {

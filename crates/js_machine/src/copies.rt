@@ -1,5 +1,5 @@
 //! Scopes and values once more.
-ghost use Rattle.std.specs.Prelude.{◌≡◌, IfOk};
+ghost use Rattle.std.specs.Prelude.{◌≡◌, MatchResult};
 
 use js_semantics::{Scope, StepFault};
 use sqlite_items::Items;
@@ -11,7 +11,7 @@ use world_heap::Value;
 /// # Errors
 /// `Memory` where there is none.
 pub fn copy_scope(alloc: Global, scope: &Scope) -> Result<Scope, StepFault>
-    ensures { IfOk result (λ copy. copy ≡ scope.now) }
+    ensures { MatchResult result (λ copy. copy ≡ scope.now) (λ fault. fault ≡ StepFault.Memory) }
 {
     let receiver = scope.receiver.copy(alloc)?;
     Ok(Scope {
@@ -25,7 +25,7 @@ pub fn copy_scope(alloc: Global, scope: &Scope) -> Result<Scope, StepFault>
 /// # Errors
 /// `Memory` where there is none.
 pub fn copy_values(alloc: Global, values: &[Value]) -> Result<Items<Value>, StepFault>
-    ensures { IfOk result (λ copies. copies ≡ values.now) }
+    ensures { MatchResult result (λ copies. copies ≡ values.now) (λ fault. fault ≡ StepFault.Memory) }
 {
     let mut copies = Items::new(alloc);
     'values: for value in values {

@@ -4,6 +4,7 @@ ghost use Rattle.js_tree.specs.declared.node.Node as tree_node;
 ghost use Rattle.js_names.specs.Patterns.{nodes_of};
 ghost use Rattle.js_semantics.specs.Alone.{alone_by};
 ghost use Rattle.js_semantics.specs.Run.{Arrival, load_row, refilled};
+ghost use Rattle.js_machine.specs.Closed.{IsClosed, Lasts};
 ghost use Rattle.js_machine.specs.Does.{Does, IsFresh, IsRealm, Receives, does_await, is_running, setting_of, to_come};
 
 use crate::frame::Frame;
@@ -63,7 +64,8 @@ impl State {
 
     // Enters the script, whose root is the last node.
     fn load(&mut self, tree: &Tree) -> Result<Next, StepFault>
-        ensures { IfOk result (λ next. Does (nodes_of tree.now) 2 load_row self.old self.new next) }
+        ensures does { IfOk result (λ next. Does (nodes_of tree.now) 2 load_row self.old self.new next) }
+        ensures closed { (nodes : List tree_node.Node) → IsClosed nodes self.old → Lasts nodes self.old self.new result }
     {
         self.loaded = true;
         let root = NodeId(tree.len().saturating_sub(1));

@@ -14,7 +14,8 @@ fn is_environment(cell: &Cell) -> bool
 
 /// Whether a location is that of a cell that is no environment.
 pub fn is_object(heap: &Heap, loc: Loc) -> bool
-    ensures { result ≡ true → IsNoEnv nat_eq heap.now.cells loc }
+    ensures fits { result ≡ true → IsNoEnv nat_eq heap.now.cells loc }
+    ensures only { IsNoEnv nat_eq heap.now.cells loc → result ≡ true }
 {
     match heap.get(loc) {
         Some(cell) => !is_environment(cell),
@@ -24,7 +25,8 @@ pub fn is_object(heap: &Heap, loc: Loc) -> bool
 
 /// Whether a location is that of a cell.
 pub fn is_cell(heap: &Heap, loc: Loc) -> bool
-    ensures { result ≡ true → IsCell nat_eq heap.now.cells loc }
+    ensures fits { result ≡ true → IsCell nat_eq heap.now.cells loc }
+    ensures only { IsCell nat_eq heap.now.cells loc → result ≡ true }
 {
     match heap.get(loc) {
         Some(_) => true,
@@ -34,7 +36,8 @@ pub fn is_cell(heap: &Heap, loc: Loc) -> bool
 
 /// Whether a prototype is there and is no environment, where there is one.
 pub fn is_prototype(heap: &Heap, proto: &Option<Loc>) -> bool
-    ensures { result ≡ true → OptionOver (IsNoEnv nat_eq heap.now.cells) proto.now }
+    ensures fits { result ≡ true → OptionOver (IsNoEnv nat_eq heap.now.cells) proto.now }
+    ensures only { OptionOver (IsNoEnv nat_eq heap.now.cells) proto.now → result ≡ true }
 {
     match proto {
         Some(loc) => is_object(heap, *loc),
@@ -44,7 +47,8 @@ pub fn is_prototype(heap: &Heap, proto: &Option<Loc>) -> bool
 
 /// Whether an outer environment is there, where there is one.
 pub fn is_outer(heap: &Heap, outer: &Option<Loc>) -> bool
-    ensures { result ≡ true → OptionOver (IsCell nat_eq heap.now.cells) outer.now }
+    ensures fits { result ≡ true → OptionOver (IsCell nat_eq heap.now.cells) outer.now }
+    ensures only { OptionOver (IsCell nat_eq heap.now.cells) outer.now → result ≡ true }
 {
     match outer {
         Some(loc) => is_cell(heap, *loc),
@@ -54,7 +58,8 @@ pub fn is_outer(heap: &Heap, outer: &Option<Loc>) -> bool
 
 /// Whether a value may stand in a cell: its number is in range, or its location is that of an object or a symbol.
 pub fn is_fit(heap: &Heap, value: &Value) -> bool
-    ensures { result ≡ true → ValueOver (IsNoEnv nat_eq heap.now.cells) value.now }
+    ensures fits { result ≡ true → ValueOver (IsNoEnv nat_eq heap.now.cells) value.now }
+    ensures only { ValueOver (IsNoEnv nat_eq heap.now.cells) value.now → result ≡ true }
 {
     match value {
         Value::Num(number) => {
@@ -67,7 +72,8 @@ pub fn is_fit(heap: &Heap, value: &Value) -> bool
 
 /// Whether an optional value may stand in a cell.
 pub fn is_fit_option(heap: &Heap, value: &Option<Value>) -> bool
-    ensures { result ≡ true → OptionOver (ValueOver (IsNoEnv nat_eq heap.now.cells)) value.now }
+    ensures fits { result ≡ true → OptionOver (ValueOver (IsNoEnv nat_eq heap.now.cells)) value.now }
+    ensures only { OptionOver (ValueOver (IsNoEnv nat_eq heap.now.cells)) value.now → result ≡ true }
 {
     match value {
         Some(value) => is_fit(heap, value),
@@ -77,7 +83,8 @@ pub fn is_fit_option(heap: &Heap, value: &Option<Value>) -> bool
 
 /// Whether all these values may stand in a cell. The cost is linear in them.
 pub fn are_fit(heap: &Heap, values: &[Value]) -> bool
-    ensures { result ≡ true → ListOver (ValueOver (IsNoEnv nat_eq heap.now.cells)) values.now }
+    ensures fits { result ≡ true → ListOver (ValueOver (IsNoEnv nat_eq heap.now.cells)) values.now }
+    ensures only { ListOver (ValueOver (IsNoEnv nat_eq heap.now.cells)) values.now → result ≡ true }
 {
     'values: for value in values {
         if !is_fit(heap, value) {
@@ -89,7 +96,8 @@ pub fn are_fit(heap: &Heap, values: &[Value]) -> bool
 
 /// Whether all values of bindings may stand in a cell. The cost is linear in the bindings.
 pub fn are_fit_bindings(heap: &Heap, bindings: &[Binding]) -> bool
-    ensures { result ≡ true → ListOver (λ b. OptionOver (ValueOver (IsNoEnv nat_eq heap.now.cells)) b.value) bindings.now }
+    ensures fits { result ≡ true → ListOver (λ b. OptionOver (ValueOver (IsNoEnv nat_eq heap.now.cells)) b.value) bindings.now }
+    ensures only { ListOver (λ b. OptionOver (ValueOver (IsNoEnv nat_eq heap.now.cells)) b.value) bindings.now → result ≡ true }
 {
     'bindings: for binding in bindings {
         if !is_fit_option(heap, &binding.value) {

@@ -1,9 +1,10 @@
 //! How a row throws an error of the language.
-ghost use Rattle.std.specs.Prelude.{◌≡◌, ℕ, List, IfOk};
+ghost use Rattle.std.specs.Prelude.{◌≡◌, ℕ, List, IfOk, MatchResult};
 ghost use Rattle.js_tree.specs.declared.node.Node as kind;
 ghost use Rattle.js_semantics.specs.Faults.{message_of};
 ghost use Rattle.js_semantics.specs.Prog.{throw};
 ghost use Rattle.js_machine.specs.Does.{Does};
+ghost use Rattle.js_machine.specs.Closed.{IsClosed, Lasts};
 
 use crate::basic::stopped;
 use crate::state::{Next, State};
@@ -15,7 +16,7 @@ use world_heap::Value;
 
 // The message of an error.
 fn message(alloc: Global, fault: Fault) -> Result<Units, StepFault>
-    ensures { IfOk result (λ text. text ≡ message_of fault) }
+    ensures { MatchResult result (λ text. text ≡ message_of fault) (λ fault. fault ≡ StepFault.Memory) }
 {
     match short_text(alloc, fault.message()) {
         Ok(text) => Ok(text),
@@ -29,6 +30,7 @@ impl State {
         ensures few { (nodes : List kind.Node) → IfOk result (λ next. Does nodes 2 (throw fault) self.old self.new next) }
         ensures some { (nodes : List kind.Node) → IfOk result (λ next. Does nodes 4 (throw fault) self.old self.new next) }
         ensures many { (nodes : List kind.Node) → IfOk result (λ next. Does nodes 6 (throw fault) self.old self.new next) }
+        ensures closed { (nodes : List kind.Node) → IsClosed nodes self.old → Lasts nodes self.old self.new result }
     {
         let message = message(self.alloc, fault)?;
         match self.make_error(fault.kind(), Some(message))? {

@@ -105,7 +105,7 @@ place_env (Some (Buffer b bs)) name place h = absurd (cc)
 place_env (Some (View b l o n)) name place h = absurd (cc)
 place_env (Some (Symbol t)) name place h = absurd (cc)
 
-rebound_fits : (P : ℕ → Type 0) (bs : List (Binding ℕ)) (name : List ℕ) (v : Value ℕ) → ValueOver P v → ListOver (λ (b : Binding ℕ). OptionOver (ValueOver P) b.value) bs → ListOver (λ (b : Binding ℕ). OptionOver (ValueOver P) b.value) (rebound bs name v)
+pub rebound_fits : (P : ℕ → Type 0) (bs : List (Binding ℕ)) (name : List ℕ) (v : Value ℕ) → ValueOver P v → ListOver (λ (b : Binding ℕ). OptionOver (ValueOver P) b.value) bs → ListOver (λ (b : Binding ℕ). OptionOver (ValueOver P) b.value) (rebound bs name v)
 rebound_fits P [] name v fit h = tt
 rebound_fits P (b ∷ bs) name v fit h =
     elim (same_text b.name name) as (λ t. ListOver (λ (b : Binding ℕ). OptionOver (ValueOver P) b.value) (if t then record b { value = Some v } ∷ bs else b ∷ rebound bs name v)) [

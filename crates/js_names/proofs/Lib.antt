@@ -1,3 +1,4 @@
 pub mod Naming
 pub mod Placing
 pub mod Binding
+pub mod Growing

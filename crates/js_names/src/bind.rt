@@ -1,10 +1,11 @@
 //! Names of environments that get values (ECMA-262, 9.1.1.1.4 and 9.1.1.1.5).
-ghost use Rattle.std.specs.Prelude.{◌≡◌, ℕ, Some, IsTrue, OnOk, OnErr, nat_eq};
+ghost use Rattle.std.specs.Prelude.{◌≡◌, ℕ, Some, IsTrue, MatchResult, OnOk, OnErr, nat_eq};
 ghost use Rattle.world_heap.specs.Maps.{find};
 ghost use Rattle.world_heap.specs.Over.{ValueOver};
 ghost use Rattle.world_heap.specs.Heaps.{IsNoEnv, IsWell};
 ghost use Rattle.js_semantics.specs.World.{World, over};
 ghost use Rattle.js_semantics.specs.Environments.{rebound, bind_in, fill_name};
+ghost use Rattle.js_names.specs.Growing.{Grows};
 ghost use Rattle.js_names.specs.Places.{place_in, place_under, cells_bound};
 
 use crate::place::{binding_of, place_at};
@@ -22,7 +23,8 @@ fn discard<T: Drop>(_value: T) {}
 
 // Whether a location is that of a cell that is no environment.
 fn is_object(heap: &Heap, loc: Loc) -> bool
-    ensures { IsTrue result → IsNoEnv nat_eq heap.now.cells loc }
+    ensures fits { IsTrue result → IsNoEnv nat_eq heap.now.cells loc }
+    ensures only { IsNoEnv nat_eq heap.now.cells loc → IsTrue result }
 {
     match heap.get(loc) {
         Some(cell) => !matches!(cell, Cell::Env { .. }),
@@ -32,7 +34,8 @@ fn is_object(heap: &Heap, loc: Loc) -> bool
 
 // Whether a value may stand in a cell of the heap: its number is in range, and its location is that of an object.
 fn may_stand(heap: &Heap, value: &Value) -> bool
-    ensures { IsTrue result → ValueOver (IsNoEnv nat_eq heap.now.cells) value.now }
+    ensures fits { IsTrue result → ValueOver (IsNoEnv nat_eq heap.now.cells) value.now }
+    ensures only { ValueOver (IsNoEnv nat_eq heap.now.cells) value.now → IsTrue result }
 {
     match value {
         Value::Num(n) => -GREATEST <= *n && *n <= GREATEST,
@@ -97,6 +100,7 @@ pub fn bind_in(
     ensures is { OnOk result ((w : World ℕ) → over heap.new w ≡ bind_in env name.now value (over heap.old w)) }
     ensures rest { heap.new ≡ record heap.old { cells = heap.new.cells } }
     ensures err { OnErr result (heap.new ≡ heap.old) }
+    ensures closed { ValueOver (IsNoEnv nat_eq heap.old.cells) value → MatchResult result (λ done. Grows heap.old.cells heap.new.cells) (λ fault. fault ≡ StepFault.Memory) }
 {
     if !may_stand(heap, &value) {
         discard(value);
@@ -134,6 +138,7 @@ pub fn fill_name(
     ensures is { OnOk result ((w : World ℕ) → over heap.new w ≡ fill_name env name.now value (over heap.old w)) }
     ensures rest { heap.new ≡ record heap.old { cells = heap.new.cells } }
     ensures err { OnErr result (heap.new ≡ heap.old) }
+    ensures closed { ValueOver (IsNoEnv nat_eq heap.old.cells) value → MatchResult result (λ done. Grows heap.old.cells heap.new.cells) (λ fault. fault ≡ StepFault.Memory) }
 {
     let at = match binding_of(heap, env, name) {
         Some(found) => found.0,

@@ -3,7 +3,10 @@ use Rattle.js_semantics.specs.Prog.{Member}
 use Rattle.js_machine.proofs.state.State.enter_member.Goals as goal
 
 pub returns-clause-few : goal.returns-clause-few
-returns-clause-few c nodes = c.go.ensures nodes 2 (Member c.args.node c.args.object c.args.scope) (omega arith) (record { row_is = λ k. refl; costs = refl })
+returns-clause-few c nodes = c.go.ensures.does nodes 2 (Member c.args.node c.args.object c.args.scope) (omega arith) (record { row_is = λ k. refl; costs = refl })
 
 pub returns-clause-many : goal.returns-clause-many
-returns-clause-many c nodes = c.go.ensures nodes 6 (Member c.args.node c.args.object c.args.scope) (omega arith) (record { row_is = λ k. refl; costs = refl })
+returns-clause-many c nodes = c.go.ensures.does nodes 6 (Member c.args.node c.args.object c.args.scope) (omega arith) (record { row_is = λ k. refl; costs = refl })
+
+pub returns-clause-closed : goal.returns-clause-closed
+returns-clause-closed c nodes closed frame object scope = c.go.ensures.closed nodes closed frame (object, scope)

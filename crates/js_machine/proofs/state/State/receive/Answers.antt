@@ -4,4 +4,4 @@ use Rattle.js_machine.proofs.state.State.receive.Goals as goal
 
 pub returns : goal.returns
 returns c =
-    received_any (nodes_of c.args.tree.now) c.args.fresh c.args.delivery c.args.self.now c.refill.new.self c.load.new.self c.load.result c.requires (c.refill.ensures c.args.delivery) c.load.ensures
+    received_any (nodes_of c.args.tree.now) c.args.fresh c.args.delivery c.args.self.now c.refill.new.self c.load.new.self c.load.result c.requires (c.refill.ensures c.args.delivery) c.load.ensures.does
