@@ -7,8 +7,8 @@ use Rattle.js_step_object.proofs.member.define_value.Goals as goal
 
 pub returns-in-None : goal.returns-in-None
 returns-in-None c nodes =
-    comes_ok nodes (λ p. define c.args.object c.args.key (λ old. plain c.args.value) p) done c.args.state.now c.define.new.state c.done.new.state _ c.done.result (c.in_ok-define.ensures nodes (λ old. plain c.args.value) refl) c.in-None.is (c.done.ensures nodes)
+    comes_ok nodes (λ p. define c.args.object c.args.key (λ old. plain c.args.value) p) done c.args.state.now c.define.new.state c.done.new.state _ c.done.result (c.in_ok-define.ensures.does nodes (λ old. plain c.args.value) refl) c.in-None.is (c.done.ensures nodes)
 
 pub returns-in-Some : goal.returns-in-Some
 returns-in-Some c nodes =
-    comes_ended nodes (λ p. define c.args.object c.args.key (λ old. plain c.args.value) p) done c.args.state.now c.define.new.state _ c.in-Some.next (c.in_ok-define.ensures nodes (λ old. plain c.args.value) refl) c.in-Some.is
+    comes_ended nodes (λ p. define c.args.object c.args.key (λ old. plain c.args.value) p) done c.args.state.now c.define.new.state _ c.in-Some.next (c.in_ok-define.ensures.does nodes (λ old. plain c.args.value) refl) c.in-Some.is

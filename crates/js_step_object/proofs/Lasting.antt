@@ -1,0 +1,102 @@
+-- What is made and defined keeps a state closed.
+use Rattle.std.proofs.Common.{◌≡◌, ℕ, Bool, true, false, List, [], ◌∷◌, ◌++◌, Option, Some, None, Result, Ok, Err, nat_eq, if◌then◌else◌, refl, sym, ap, ◌∙◌, subst}
+use Rattle.std.specs.Cmp.Lexicographic.{pointwise}
+use Rattle.js_tree.specs.declared.node.Node.{Node}
+use Rattle.world_heap.specs.declared.value.Value.{Value}
+use Rattle.world_heap.specs.declared.value.Property.{Property}
+use Rattle.world_heap.specs.declared.cell.Body.{Body}
+use Rattle.world_heap.specs.declared.cell.Cell.{Cell}
+use Rattle.world_heap.specs.declared.cell.Cell.TheVariants.{Array}
+use Rattle.world_heap.specs.declared.limits.HeapFault.{HeapFault}
+use Rattle.world_heap.specs.Maps.{find, put}
+use Rattle.world_heap.specs.Table.{put_under}
+use Rattle.world_heap.specs.Bodies.{body_of, with_body}
+use Rattle.world_heap.specs.Over.{ListOver, PropertyOver, ValueOver}
+use Rattle.world_heap.specs.Heaps.{Fits, IsCell, IsNoEnv, IsWithin}
+use Rattle.world_heap.specs.Views.{HeapView}
+use Rattle.world_heap.proofs.Bodying.{alike_body, body_fits, fits_body, has_cell}
+use Rattle.world_heap.proofs.Wells.{fits_found, list_push}
+use Rattle.proto_props.specs.declared.outcome.SetDone.{SetDone}
+use Rattle.proto_props.specs.Adds.{IsOpenArray, with_property}
+use Rattle.proto_props.specs.Changes.{Extending, Rewriting}
+use Rattle.js_names.specs.Growing.{Grows}
+use Rattle.js_names.proofs.Growing.{grows_put}
+use Rattle.js_machine.specs.declared.state.Control.TheVariants as controls
+use Rattle.js_machine.specs.declared.state.State.{State}
+use Rattle.js_machine.specs.Closed.{GoesOn, IsClosed, ValueFits}
+use Rattle.js_machine.proofs.Closing.{closed_control, closed_grown}
+use Rattle.js_step_object.specs.Defining.{body_at}
+use Rattle.js_step_object.proofs.Defined.{has_body, told}
+
+over_put : {V : Type 0} (P : V → Type 0) (entries : List (List ℕ × V)) (key : List ℕ) (v : V) → ListOver (λ m. P m.1) entries → P v → ListOver (λ m. P m.1) (put_under entries key v)
+over_put P [] key v h p = (p, tt)
+over_put P (e ∷ entries) key v h p =
+    elim (pointwise nat_eq key e.0) as (λ t. ListOver (λ m. P m.1) (if t then (e.0, v) ∷ entries else e ∷ put_under entries key v)) [
+      | true ↦ (p, h.1)
+      | false ↦ (h.0, over_put P entries key v h.1 p)
+    ]
+
+-- a property is put into the body of a cell
+grows_property : (cells : List (ℕ × Cell ℕ)) (l : ℕ) (c : Cell ℕ) (b : Body ℕ) (key : List ℕ) (p : Property ℕ) → find nat_eq cells l ≡ Some c → body_of c ≡ Some b → PropertyOver (IsNoEnv nat_eq cells) p → Grows cells (put nat_eq cells l (with_body c (with_property b key p)))
+grows_property cells l c b key p found has fit =
+    grows_put cells l (with_body c (with_property b key p)) c found (alike_body c b (with_property b key p) has refl)
+    (λ q vs is. let none : Some b ≡ None = sym has ∙ ap body_of is in absurd (cc))
+    (λ well.
+    let old : Fits nat_eq cells c = fits_found (Fits nat_eq cells) cells l c well.fits found in
+    let body = fits_body (IsNoEnv nat_eq cells) (IsCell nat_eq cells) (IsWithin nat_eq cells) c b has old in
+    body_fits (IsNoEnv nat_eq cells) (IsCell nat_eq cells) (IsWithin nat_eq cells) c (with_property b key p) old (body.0, over_put (PropertyOver (IsNoEnv nat_eq cells)) b.properties key p body.1 fit))
+
+-- an element is put at the end of an array
+grows_item : (cells : List (ℕ × Cell ℕ)) (l : ℕ) (p : Option ℕ) (vs : List (Value ℕ)) (v : Value ℕ) → find nat_eq cells l ≡ Some (Array p vs false) → ValueFits cells v → Grows cells (put nat_eq cells l (Array p (vs ++ v ∷ []) false))
+grows_item cells l p vs v found fit =
+    grows_put cells l (Array p (vs ++ v ∷ []) false) (Array p vs false) found (record { env = refl; proto = refl; bytes = refl })
+    (λ q ws is. (p, vs ++ v ∷ [], refl))
+    (λ well.
+    let old : Fits nat_eq cells (Array p vs false) = fits_found (Fits nat_eq cells) cells l (Array p vs false) well.fits found in
+    (old.0, list_push (ValueOver (IsNoEnv nat_eq cells)) vs v old.1 fit))
+
+-- another heap, which goes on
+rewrote : (nodes : List Node) (old : State) (heap : HeapView) (cells : List (ℕ × Cell ℕ)) → IsClosed nodes old → heap.cells ≡ cells → Grows old.heap.cells cells → GoesOn nodes old (record old { heap = heap })
+rewrote nodes old heap cells closed is grows = closed_grown nodes old (record old { heap = heap }) closed (rw is grows) refl refl
+
+-- the same heap, and the world stops
+stopped : (nodes : List Node) (old new : State) (heap : HeapView) → IsClosed nodes old → heap ≡ old.heap → new ≡ record old { heap = heap; control = controls.Stop } → GoesOn nodes old new
+stopped nodes old new heap closed same is =
+    subst (λ s. GoesOn nodes old s) (sym (is ∙ ap (λ h. record old { heap = h; control = controls.Stop }) same)) (closed_control nodes old controls.Stop closed tt)
+
+-- a property is defined
+module _ (nodes : List Node) (loc : ℕ) (key : List ℕ) (property : Property ℕ) (old : State) (heap : HeapView) (r : Result (SetDone ℕ) HeapFault) (closed : IsClosed nodes old) where
+  pub put_lasts : (done : SetDone ℕ) → told (body_at old.heap.cells loc) key ≡ Some true → PropertyOver (IsNoEnv nat_eq old.heap.cells) property → ((c : Cell ℕ) (b : Body ℕ) → find nat_eq old.heap.cells loc ≡ Some c → body_of c ≡ Some b → Rewriting old.heap loc (with_body c (with_property b key property)) r heap) → r ≡ Ok done → GoesOn nodes old (record old { heap = heap })
+  put_lasts done stands fit law ok =
+      let (b, has) = has_body old.heap.cells loc key true stands in
+      let (c, found, is) = has_cell old.heap.cells loc b has in
+      let wrote : Rewriting old.heap loc (with_body c (with_property b key property)) (Ok done) heap = rw ok at (law c b found is) in
+      rewrote nodes old heap (put nat_eq old.heap.cells loc (with_body c (with_property b key property))) closed (ap (λ (h : HeapView). h.cells) wrote.1) (grows_property old.heap.cells loc c b key property found is fit)
+
+  pub add_lasts : (done : SetDone ℕ) → told (body_at old.heap.cells loc) key ≡ Some false → PropertyOver (IsNoEnv nat_eq old.heap.cells) property → ((c : Cell ℕ) (b : Body ℕ) → find nat_eq old.heap.cells loc ≡ Some c → body_of c ≡ Some b → Extending old.heap loc (with_body c (with_property b key property)) r heap) → r ≡ Ok done → GoesOn nodes old (record old { heap = heap })
+  add_lasts done stands fit law ok =
+      let (b, has) = has_body old.heap.cells loc key false stands in
+      let (c, found, is) = has_cell old.heap.cells loc b has in
+      let wrote : Extending old.heap loc (with_body c (with_property b key property)) (Ok done) heap = rw ok at (law c b found is) in
+      rewrote nodes old heap (put nat_eq old.heap.cells loc (with_body c (with_property b key property))) closed (ap (λ (h : HeapView). h.cells) wrote.2) (grows_property old.heap.cells loc c b key property found is fit)
+
+  pub add_stops : (new : State) (fault : HeapFault) → told (body_at old.heap.cells loc) key ≡ Some false → ((c : Cell ℕ) (b : Body ℕ) → find nat_eq old.heap.cells loc ≡ Some c → body_of c ≡ Some b → Extending old.heap loc (with_body c (with_property b key property)) r heap) → r ≡ Err fault → new ≡ record old { heap = heap; control = controls.Stop } → GoesOn nodes old new
+  add_stops new fault stands law err is =
+      let (b, has) = has_body old.heap.cells loc key false stands in
+      let (c, found, held) = has_cell old.heap.cells loc b has in
+      let kept : Extending old.heap loc (with_body c (with_property b key property)) (Err fault) heap = rw err at (law c b found held) in
+      stopped nodes old new heap closed kept.1 is
+
+-- an element is put at the end of an array
+module _ (nodes : List Node) (loc : ℕ) (v : Value ℕ) (old : State) (heap : HeapView) (r : Result (SetDone ℕ) HeapFault) (closed : IsClosed nodes old) (stands : IsOpenArray old.heap.cells loc) (law : (p : Option ℕ) (vs : List (Value ℕ)) → find nat_eq old.heap.cells loc ≡ Some (Array p vs false) → Extending old.heap loc (Array p (vs ++ v ∷ []) false) r heap) where
+  pub push_lasts : (done : SetDone ℕ) → ValueFits old.heap.cells v → r ≡ Ok done → GoesOn nodes old (record old { heap = heap })
+  push_lasts done fit ok =
+      let (p, vs, found) = stands in
+      let wrote : Extending old.heap loc (Array p (vs ++ v ∷ []) false) (Ok done) heap = rw ok at (law p vs found) in
+      rewrote nodes old heap (put nat_eq old.heap.cells loc (Array p (vs ++ v ∷ []) false)) closed (ap (λ (h : HeapView). h.cells) wrote.2) (grows_item old.heap.cells loc p vs v found fit)
+
+  pub push_stops : (new : State) (fault : HeapFault) → r ≡ Err fault → new ≡ record old { heap = heap; control = controls.Stop } → GoesOn nodes old new
+  push_stops new fault err is =
+      let (p, vs, found) = stands in
+      let kept : Extending old.heap loc (Array p (vs ++ v ∷ []) false) (Err fault) heap = rw err at (law p vs found) in
+      stopped nodes old new heap closed kept.1 is
