@@ -6,25 +6,33 @@ use Rattle.world_heap.specs.declared.value.Value.{Value}
 use Rattle.world_heap.specs.declared.value.Property.{Property}
 use Rattle.world_heap.specs.declared.cell.Body.{Body}
 use Rattle.world_heap.specs.declared.cell.Cell.{Cell}
-use Rattle.world_heap.specs.declared.cell.Cell.TheVariants.{Array}
+use Rattle.world_heap.specs.declared.cell.Binding.{Binding}
+use Rattle.world_heap.specs.declared.cell.Cell.TheVariants.{Array, Closure, Env, Object}
+use Rattle.world_heap.specs.declared.builtin.BuiltIn.{BuiltIn}
+use Rattle.world_heap.specs.declared.builtin.BuiltIn.TheVariants.{FunctionPrototype}
 use Rattle.world_heap.specs.declared.limits.HeapFault.{HeapFault}
 use Rattle.world_heap.specs.Maps.{find, put}
 use Rattle.world_heap.specs.Table.{put_under}
 use Rattle.world_heap.specs.Bodies.{body_of, with_body}
-use Rattle.world_heap.specs.Over.{ListOver, PropertyOver, ValueOver}
-use Rattle.world_heap.specs.Heaps.{Fits, IsCell, IsNoEnv, IsWithin}
+use Rattle.world_heap.specs.Over.{ListOver, OptionOver, PropertyOver, ValueOver}
+use Rattle.world_heap.specs.Heaps.{is_env, Fits, IsCell, IsNoEnv, IsWithin}
 use Rattle.world_heap.specs.Views.{HeapView}
 use Rattle.world_heap.proofs.Bodying.{alike_body, body_fits, fits_body, has_cell}
 use Rattle.world_heap.proofs.Wells.{fits_found, list_push}
 use Rattle.proto_props.specs.declared.outcome.SetDone.{SetDone}
 use Rattle.proto_props.specs.Adds.{IsOpenArray, with_property}
 use Rattle.proto_props.specs.Changes.{Extending, Rewriting}
+use Rattle.world_log.specs.declared.entry.Stop.{Stop}
+use Rattle.js_semantics.specs.Environments.{unready}
+use Rattle.js_semantics.specs.Objects.{bare}
+use Rattle.js_semantics.specs.World.{built_in}
 use Rattle.js_names.specs.Growing.{Grows}
 use Rattle.js_names.proofs.Growing.{grows_put}
 use Rattle.js_machine.specs.declared.state.Control.TheVariants as controls
 use Rattle.js_machine.specs.declared.state.State.{State}
 use Rattle.js_machine.specs.Closed.{GoesOn, IsClosed, ValueFits}
-use Rattle.js_machine.proofs.Closing.{closed_control, closed_grown}
+use Rattle.js_machine.specs.Does.{Allocates, world_of}
+use Rattle.js_machine.proofs.Closing.{built_in_fits, closed_control, closed_grown, closed_made, closed_stopped, made_cell, made_no_env}
 use Rattle.js_step_object.specs.Defining.{body_at}
 use Rattle.js_step_object.proofs.Defined.{has_body, told}
 
@@ -100,3 +108,36 @@ module _ (nodes : List Node) (loc : ℕ) (v : Value ℕ) (old : State) (heap : H
       let (p, vs, found) = stands in
       let kept : Extending old.heap loc (Array p (vs ++ v ∷ []) false) (Err fault) heap = rw err at (law p vs found) in
       stopped nodes old new heap closed kept.1 is
+
+-- a cell is made, or the world stops
+module _ (nodes : List Node) (cell : Cell ℕ) (old new : State) (got : Result ℕ Stop) (made : Allocates cell old new got) where
+  pub made_lasts : (loc : ℕ) → got ≡ Ok loc → IsClosed nodes old → Fits nat_eq old.heap.cells cell → GoesOn nodes old new
+  made_lasts loc is closed fit = let one : Allocates cell old new (Ok loc) = rw is at made in closed_made cell old new loc one nodes closed fit
+
+  pub made_plain : (loc : ℕ) → got ≡ Ok loc → is_env cell ≡ false → IsNoEnv nat_eq new.heap.cells loc
+  made_plain loc is plain = let one : Allocates cell old new (Ok loc) = rw is at made in made_no_env cell old new loc one plain
+
+  pub made_stands : (loc : ℕ) → got ≡ Ok loc → IsCell nat_eq new.heap.cells loc
+  made_stands loc is = let one : Allocates cell old new (Ok loc) = rw is at made in made_cell cell old new loc one
+
+  pub stop_lasts : (stop : Stop) → got ≡ Err stop → IsClosed nodes old → GoesOn nodes old new
+  stop_lasts stop is closed = let one : Allocates cell old new (Err stop) = rw is at made in closed_stopped nodes cell old new stop closed one
+
+-- a prototype that is built in
+pub proto_fits : (nodes : List Node) (s : State) (name : BuiltIn) (proto : Option ℕ) → IsClosed nodes s → proto ≡ built_in name (world_of nodes (λ n. n) s) → OptionOver (IsNoEnv nat_eq s.heap.cells) proto
+proto_fits nodes s name proto closed is = rw is (built_in_fits nodes (λ n. n) s name closed)
+
+-- an object without properties
+abbrev pub plain_cell : Option ℕ → Cell ℕ
+plain_cell proto = Object (record { proto = proto; properties = []; extensible = true })
+
+-- a closure may be made
+abbrev pub closure_cell : List Node → State → ℕ → ℕ → Option (Value ℕ) → Cell ℕ
+closure_cell nodes s node env receiver = Closure (bare FunctionPrototype (world_of nodes (λ n. n) s)) node env receiver
+
+pub closure_fits : (nodes : List Node) (s : State) (node env : ℕ) (receiver : Option (Value ℕ)) → IsClosed nodes s → IsCell nat_eq s.heap.cells env → OptionOver (ValueFits s.heap.cells) receiver → Fits nat_eq s.heap.cells (closure_cell nodes s node env receiver)
+closure_fits nodes s node env receiver closed stands fit = ((built_in_fits nodes (λ n. n) s FunctionPrototype closed, tt), stands, fit)
+
+-- an environment may be made with a name that isn't ready
+pub name_fits : (cells : List (ℕ × Cell ℕ)) (env : ℕ) (name : List ℕ) (bindings : List (Binding ℕ)) → bindings ≡ unready true name ∷ [] → IsCell nat_eq cells env → Fits nat_eq cells (Env (Some env) bindings)
+name_fits cells env name bindings is stands = rw is (stands, (tt, tt))

@@ -11,10 +11,10 @@ pub returns-in-Ok : goal.returns-in-Ok
 unfolding row_object
 returns-in-Ok c =
     let nodes = nodes_of c.args.tree.now in
-    then_ok nodes (λ k. make_object k) (λ loc. members_into loc (items_of (slice_get nodes c.args.node.0)) c.args.scope (give (Ref loc))) c.args.state.now c.plain_object.new.state c.members_from.new.state _ c.in-Ok.object c.members_from.result (c.in_ok-object.ensures nodes) c.in-Ok.is c.members_from.ensures
+    then_ok nodes (λ k. make_object k) (λ loc. members_into loc (items_of (slice_get nodes c.args.node.0)) c.args.scope (give (Ref loc))) c.args.state.now c.plain_object.new.state c.members_from.new.state _ c.in-Ok.object c.members_from.result (c.in_ok-object.ensures.does nodes) c.in-Ok.is c.members_from.ensures
 
 pub returns-in-Err : goal.returns-in-Err
 unfolding row_object
 returns-in-Err c =
     let nodes = nodes_of c.args.tree.now in
-    then_err nodes (λ k. make_object k) (λ loc. members_into loc (items_of (slice_get nodes c.args.node.0)) c.args.scope (give (Ref loc))) c.args.state.now c.plain_object.new.state _ c.in-Err.next (c.in_ok-object.ensures nodes) c.in-Err.is
+    then_err nodes (λ k. make_object k) (λ loc. members_into loc (items_of (slice_get nodes c.args.node.0)) c.args.scope (give (Ref loc))) c.args.state.now c.plain_object.new.state _ c.in-Err.next (c.in_ok-object.ensures.does nodes) c.in-Err.is
