@@ -9,7 +9,7 @@ use Rattle.world_heap.specs.declared.cell.Cell.{Cell}
 use Rattle.world_heap.specs.declared.cell.Binding.{Binding}
 use Rattle.world_heap.specs.declared.cell.Cell.TheVariants.{Array, Closure, Env, Object}
 use Rattle.world_heap.specs.declared.builtin.BuiltIn.{BuiltIn}
-use Rattle.world_heap.specs.declared.builtin.BuiltIn.TheVariants.{FunctionPrototype}
+use Rattle.world_heap.specs.declared.builtin.BuiltIn.TheVariants.{ArrayPrototype, FunctionPrototype}
 use Rattle.world_heap.specs.declared.limits.HeapFault.{HeapFault}
 use Rattle.world_heap.specs.Maps.{find, put}
 use Rattle.world_heap.specs.Table.{put_under}
@@ -26,13 +26,13 @@ use Rattle.world_log.specs.declared.entry.Stop.{Stop}
 use Rattle.js_semantics.specs.Environments.{unready}
 use Rattle.js_semantics.specs.Objects.{bare}
 use Rattle.js_semantics.specs.World.{built_in}
-use Rattle.js_names.specs.Growing.{Grows}
+use Rattle.js_names.specs.Growing.{Grows, IsOpen}
 use Rattle.js_names.proofs.Growing.{grows_put}
 use Rattle.js_machine.specs.declared.state.Control.TheVariants as controls
 use Rattle.js_machine.specs.declared.state.State.{State}
 use Rattle.js_machine.specs.Closed.{GoesOn, IsClosed, ValueFits}
 use Rattle.js_machine.specs.Does.{Allocates, world_of}
-use Rattle.js_machine.proofs.Closing.{built_in_fits, closed_control, closed_grown, closed_made, closed_stopped, made_cell, made_no_env}
+use Rattle.js_machine.proofs.Closing.{built_in_fits, closed_control, closed_grown, closed_made, closed_stopped, made_cell, made_found, made_no_env}
 use Rattle.js_step_object.specs.Defining.{body_at}
 use Rattle.js_step_object.proofs.Defined.{has_body, told}
 
@@ -141,3 +141,15 @@ closure_fits nodes s node env receiver closed stands fit = ((built_in_fits nodes
 -- an environment may be made with a name that isn't ready
 pub name_fits : (cells : List (ℕ × Cell ℕ)) (env : ℕ) (name : List ℕ) (bindings : List (Binding ℕ)) → bindings ≡ unready true name ∷ [] → IsCell nat_eq cells env → Fits nat_eq cells (Env (Some env) bindings)
 name_fits cells env name bindings is stands = rw is (stands, (tt, tt))
+
+-- an array without elements may be made, and isn't frozen
+abbrev pub array_cell : List Node → State → List (Value ℕ) → Cell ℕ
+array_cell nodes s items = Array (built_in ArrayPrototype (world_of nodes (λ n. n) s)) items false
+
+pub array_fits : (nodes : List Node) (s : State) (items : List (Value ℕ)) → IsClosed nodes s → items ≡ [] → Fits nat_eq s.heap.cells (array_cell nodes s items)
+array_fits nodes s items closed none = (built_in_fits nodes (λ n. n) s ArrayPrototype closed, rw none tt)
+
+pub made_open : (nodes : List Node) (items : List (Value ℕ)) (old new : State) (got : Result ℕ Stop) (loc : ℕ) → Allocates (array_cell nodes old items) old new got → got ≡ Ok loc → IsOpen new.heap.cells loc
+made_open nodes items old new got loc made is =
+    let one : Allocates (array_cell nodes old items) old new (Ok loc) = rw is at made in
+    (built_in ArrayPrototype (world_of nodes (λ n. n) old), items, made_found (array_cell nodes old items) old new loc one)
