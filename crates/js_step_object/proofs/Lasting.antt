@@ -1,9 +1,11 @@
 -- What is made and defined keeps a state closed.
-use Rattle.std.proofs.Common.{◌≡◌, ℕ, Bool, true, false, List, [], ◌∷◌, ◌++◌, Option, Some, None, Result, Ok, Err, nat_eq, if◌then◌else◌, refl, sym, ap, ◌∙◌, subst}
+use Rattle.std.proofs.Common.{◌≡◌, ℕ, true, false, List, [], ◌∷◌, ◌++◌, Option, Some, None, Result, Ok, Err, nat_eq, if◌then◌else◌, refl, sym, ap, ◌∙◌, subst}
 use Rattle.std.specs.Cmp.Lexicographic.{pointwise}
+use Rattle.std.specs.Option.{option_and_then}
 use Rattle.js_tree.specs.declared.node.Node.{Node}
 use Rattle.world_heap.specs.declared.value.Value.{Value}
 use Rattle.world_heap.specs.declared.value.Property.{Property}
+use Rattle.world_heap.specs.declared.value.Property.TheVariants.{Data, Access}
 use Rattle.world_heap.specs.declared.cell.Body.{Body}
 use Rattle.world_heap.specs.declared.cell.Cell.{Cell}
 use Rattle.world_heap.specs.declared.cell.Binding.{Binding}
@@ -12,10 +14,10 @@ use Rattle.world_heap.specs.declared.builtin.BuiltIn.{BuiltIn}
 use Rattle.world_heap.specs.declared.builtin.BuiltIn.TheVariants.{ArrayPrototype, FunctionPrototype}
 use Rattle.world_heap.specs.declared.limits.HeapFault.{HeapFault}
 use Rattle.world_heap.specs.Maps.{find, put}
-use Rattle.world_heap.specs.Table.{put_under}
+use Rattle.world_heap.specs.Table.{found_under, put_under}
 use Rattle.world_heap.specs.Bodies.{body_of, with_body}
-use Rattle.world_heap.specs.Over.{ListOver, OptionOver, PropertyOver, ValueOver}
-use Rattle.world_heap.specs.Heaps.{is_env, Fits, IsCell, IsNoEnv, IsWithin}
+use Rattle.world_heap.specs.Over.{BodyOver, ListOver, OptionOver, PropertyOver, ValueOver}
+use Rattle.world_heap.specs.Heaps.{is_env, Fits, IsCell, IsNoEnv, IsWell, IsWithin}
 use Rattle.world_heap.specs.Views.{HeapView}
 use Rattle.world_heap.proofs.Bodying.{alike_body, body_fits, fits_body, has_cell}
 use Rattle.world_heap.proofs.Wells.{fits_found, list_push}
@@ -33,7 +35,10 @@ use Rattle.js_machine.specs.declared.state.State.{State}
 use Rattle.js_machine.specs.Closed.{GoesOn, IsClosed, ValueFits}
 use Rattle.js_machine.specs.Does.{Allocates, world_of}
 use Rattle.js_machine.proofs.Closing.{built_in_fits, closed_control, closed_grown, closed_made, closed_stopped, made_cell, made_found, made_no_env}
-use Rattle.js_step_object.specs.Defining.{body_at}
+use Rattle.js_step_object.specs.Defining.{body_at, standing, under_key}
+use Rattle.js_step_object.specs.Members.{member_property}
+use Rattle.js_step_object.specs.declared.member.Part.{Part}
+use Rattle.js_step_object.specs.declared.member.Part.TheVariants.{Method, Getter, Setter}
 use Rattle.js_step_object.proofs.Defined.{has_body, told}
 
 over_put : {V : Type 0} (P : V → Type 0) (entries : List (List ℕ × V)) (key : List ℕ) (v : V) → ListOver (λ m. P m.1) entries → P v → ListOver (λ m. P m.1) (put_under entries key v)
@@ -153,3 +158,37 @@ pub made_open : (nodes : List Node) (items : List (Value ℕ)) (old new : State)
 made_open nodes items old new got loc made is =
     let one : Allocates (array_cell nodes old items) old new (Ok loc) = rw is at made in
     (built_in ArrayPrototype (world_of nodes (λ n. n) old), items, made_found (array_cell nodes old items) old new loc one)
+
+-- What stands under a key of an object fits, where the heap is well.
+found_over : {V : Type 0} (P : V → Type 0) (entries : List (List ℕ × V)) (key : List ℕ) → ListOver (λ m. P m.1) entries → OptionOver P (found_under entries key)
+found_over P [] key h = tt
+found_over P (e ∷ entries) key h =
+    elim (pointwise nat_eq key e.0) as (λ t. OptionOver P (if t then Some e.1 else found_under entries key)) [
+      | true ↦ h.0
+      | false ↦ found_over P entries key h.1
+    ]
+
+under_fits : (P : ℕ → Type 0) (o : Option (Body ℕ)) (key : List ℕ) → OptionOver (BodyOver P) o → OptionOver (PropertyOver P) (under_key o key)
+under_fits P None key h = tt
+under_fits P (Some b) key h = found_over (PropertyOver P) b.properties key h.1
+
+body_over : (cells : List (ℕ × Cell ℕ)) (loc : ℕ) → IsWell nat_eq cells → (o : Option (Cell ℕ)) → find nat_eq cells loc ≡ o → OptionOver (BodyOver (IsNoEnv nat_eq cells)) (option_and_then body_of o)
+body_over cells loc well None found = tt
+body_over cells loc well (Some c) found = of (body_of c) refl
+  where
+    of : (o : Option (Body ℕ)) → body_of c ≡ o → OptionOver (BodyOver (IsNoEnv nat_eq cells)) o
+    of None is = tt
+    of (Some b) is = fits_body (IsNoEnv nat_eq cells) (IsCell nat_eq cells) (IsWithin nat_eq cells) c b is (fits_found (Fits nat_eq cells) cells loc c well.fits found)
+
+pub standing_fits : (cells : List (ℕ × Cell ℕ)) (loc : ℕ) (key : List ℕ) → IsWell nat_eq cells → OptionOver (PropertyOver (IsNoEnv nat_eq cells)) (standing cells loc key)
+standing_fits cells loc key well = under_fits (IsNoEnv nat_eq cells) (body_at cells loc) key (body_over cells loc well (find nat_eq cells loc) refl)
+
+-- and so does the property that has a function with it
+pub member_fits : (P : ℕ → Type 0) (part : Part) (f : ℕ) (old : Option (Property ℕ)) → P f → OptionOver (PropertyOver P) old → PropertyOver P (member_property part f old)
+member_fits P Method f old h k = h
+member_fits P Getter f None h k = (h, tt)
+member_fits P Getter f (Some (Data v w e c)) h k = (h, tt)
+member_fits P Getter f (Some (Access get set e c)) h k = (h, k.1)
+member_fits P Setter f None h k = (tt, h)
+member_fits P Setter f (Some (Data v w e c)) h k = (tt, h)
+member_fits P Setter f (Some (Access get set e c)) h k = (k.0, h)
