@@ -4,3 +4,4 @@ pub mod Making
 pub mod Going
 pub mod Membership
 pub mod Pushing
+pub mod Lasting

@@ -39,6 +39,12 @@ open_cell cells loc other found h = absurd (cc)
 pub open_array : (cells : List (ℕ × Cell ℕ)) (loc : ℕ) (c : Cell ℕ) (told : Bool) → find nat_eq cells loc ≡ Some c → told ≡ is_open_array c → told ≡ true → IsOpenArray cells loc
 open_array cells loc c told found is h = open_cell cells loc c found (sym is ∙ h)
 
+pub open_only : (cells : List (ℕ × Cell ℕ)) (loc : ℕ) (c : Cell ℕ) → find nat_eq cells loc ≡ Some c → IsOpenArray cells loc → is_open_array c ≡ true
+open_only cells loc c found stands =
+    let some : Some c ≡ Some (Array stands.0 stands.1 false) = sym found ∙ stands.2 in
+    let is : c ≡ Array stands.0 stands.1 false = cc in
+    ap (λ x. is_open_array x) is
+
 -- an element is put at its end
 pub push_ok : (nodes : List Node) (loc : ℕ) (v : Value ℕ) (old new : State) (heap : HeapView) (r : Result (SetDone ℕ) HeapFault) (done : SetDone ℕ) → IsOpenArray old.heap.cells loc → ((p : Option ℕ) (vs : List (Value ℕ)) → find nat_eq old.heap.cells loc ≡ Some (Array p vs false) → Extending old.heap loc (Array p (vs ++ v ∷ []) false) r heap) → r ≡ Ok done → new ≡ record old { heap = heap } → Comes nodes (λ q. push_item loc v q) old new None
 unfolding push_item

@@ -2,7 +2,7 @@
 use Rattle.std.proofs.Common.{◌≡◌, ℕ, ◌+◌, ◌*◌, ◌-◌, ◌≤◌, ◌<◌, List, [], ◌∷◌, nat_eq, refl, sym, ap, ◌∙◌, arith}
 use Rattle.js_tree.specs.declared.node.Node.{Node}
 use Rattle.world_heap.specs.declared.cell.Cell.{Cell}
-use Rattle.world_heap.specs.Maps.{keys, put, keys-put}
+use Rattle.world_heap.specs.Maps.{put, keys-put}
 use Rattle.world_heap.specs.Growth.{grown}
 use Rattle.js_semantics.specs.World.{World, with_cell}
 use Rattle.js_semantics.specs.Prog.{Prog, bind, change, count_places}

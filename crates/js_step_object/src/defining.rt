@@ -5,6 +5,7 @@ ghost use Rattle.js_tree.specs.declared.node.Node as kind;
 ghost use Rattle.world_heap.specs.Heaps.{IsNoEnv};
 ghost use Rattle.world_heap.specs.Over.{PropertyOver};
 ghost use Rattle.world_heap.specs.Table.{found_under};
+ghost use Rattle.js_machine.specs.Closed.{IsClosed, Lasts};
 ghost use Rattle.js_step_object.specs.Defining.{Defines, body_at};
 
 use js_machine::{Control, Next, State, discard, is_fit, is_prototype, stopped};
@@ -16,7 +17,8 @@ use world_log::Stop;
 
 // Whether a property may stand in a body: its number is in range, and its locations are those of objects.
 fn is_fit_property(heap: &Heap, property: &Property) -> bool
-    ensures { result ≡ true → PropertyOver (IsNoEnv nat_eq heap.now.cells) property.now }
+    ensures fits { result ≡ true → PropertyOver (IsNoEnv nat_eq heap.now.cells) property.now }
+    ensures only { PropertyOver (IsNoEnv nat_eq heap.now.cells) property.now → result ≡ true }
 {
     match property {
         Property::Data { value, .. } => is_fit(heap, value),
@@ -46,7 +48,8 @@ fn put_at(
 ) -> Result<Option<Next>, StepFault>
     requires stands { option_map (λ b. is_some (found_under b.properties key)) (body_at state.old.heap.cells loc) ≡ Some true }
     requires fits { PropertyOver (IsNoEnv nat_eq state.old.heap.cells) property }
-    ensures { (nodes : List kind.Node) → IfOk result (λ ended. Defines nodes loc key property state.old state.new ended) }
+    ensures does { (nodes : List kind.Node) → IfOk result (λ ended. Defines nodes loc key property state.old state.new ended) }
+    ensures closed { (nodes : List kind.Node) → IsClosed nodes state.old → Lasts nodes state.old state.new result }
 {
     match put_property(state.alloc, &mut state.heap, loc, key, property) {
         Ok(_) => Ok(None),
@@ -63,7 +66,8 @@ fn add_at(
 ) -> Result<Option<Next>, StepFault>
     requires stands { option_map (λ b. is_some (found_under b.properties key)) (body_at state.old.heap.cells loc) ≡ Some false }
     requires fits { PropertyOver (IsNoEnv nat_eq state.old.heap.cells) property }
-    ensures { (nodes : List kind.Node) → IfOk result (λ ended. Defines nodes loc key property state.old state.new ended) }
+    ensures does { (nodes : List kind.Node) → IfOk result (λ ended. Defines nodes loc key property state.old state.new ended) }
+    ensures closed { (nodes : List kind.Node) → IsClosed nodes state.old → Lasts nodes state.old state.new result }
 {
     match add_property(state.alloc, &mut state.heap, loc, key, property) {
         Ok(_) => Ok(None),
@@ -84,7 +88,8 @@ fn refuse(
     property: Property,
 ) -> Result<Option<Next>, StepFault>
     requires { body_at state.old.heap.cells loc ≡ None }
-    ensures { (nodes : List kind.Node) → IfOk result (λ ended. Defines nodes loc key property state.old state.new ended) }
+    ensures does { (nodes : List kind.Node) → IfOk result (λ ended. Defines nodes loc key property state.old state.new ended) }
+    ensures closed { (nodes : List kind.Node) → IsClosed nodes state.old → Lasts nodes state.old state.new result }
 {
     discard(key);
     discard(property);
@@ -106,7 +111,8 @@ pub fn define(
     key: Units,
     property: Property,
 ) -> Result<Option<Next>, StepFault>
-    ensures { (nodes : List kind.Node) → IfOk result (λ ended. Defines nodes loc key property state.old state.new ended) }
+    ensures does { (nodes : List kind.Node) → IfOk result (λ ended. Defines nodes loc key property state.old state.new ended) }
+    ensures closed { (nodes : List kind.Node) → IsClosed nodes state.old → PropertyOver (IsNoEnv nat_eq state.old.heap.cells) property → Lasts nodes state.old state.new result }
 {
     if !is_fit_property(&state.heap, &property) {
         discard(key);

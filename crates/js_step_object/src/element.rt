@@ -1,13 +1,16 @@
 //! The elements of array literals (ECMA-262, 13.2.4).
-ghost use Rattle.std.specs.Prelude.{◌≡◌, [], ◌∷◌, drop, slice_get, true, List, IfOk, Some};
+ghost use Rattle.std.specs.Prelude.{◌≡◌, [], ◌∷◌, drop, slice_get, true, List, IfOk, Some, nat_eq};
 ghost use Rattle.js_tree.specs.declared.node.Node as kind;
 ghost use Rattle.proto_props.specs.Adds.{IsOpenArray};
+ghost use Rattle.world_heap.specs.Heaps.{IsNoEnv};
+ghost use Rattle.js_names.specs.Growing.{IsOpen};
 ghost use Rattle.js_names.specs.Patterns.{nodes_of};
 ghost use Rattle.js_semantics.specs.Access.{make_array};
 ghost use Rattle.js_semantics.specs.Iteration.{elements_into, items_at, push_item, push_items, values_of, walk_value};
 ghost use Rattle.js_semantics.specs.Objects.{row_array};
 ghost use Rattle.js_semantics.specs.Prog.{Read, eval, give, step};
 ghost use Rattle.js_semantics.specs.World.{cell_at};
+ghost use Rattle.js_machine.specs.Closed.{IsClosed, Lasts, ScopeFits, ValueFits};
 ghost use Rattle.js_machine.specs.Does.{Does};
 ghost use Rattle.js_machine.specs.Parts.{items_of};
 ghost use Rattle.js_step_object.specs.Defining.{Comes, Makes};
@@ -38,7 +41,8 @@ fn is_open_array(cell: &Cell) -> bool
 
 // Whether an array that isn't frozen stands at a location.
 fn is_open(heap: &Heap, loc: Loc) -> bool
-    ensures { result ≡ true → IsOpenArray heap.now.cells loc }
+    ensures fits { result ≡ true → IsOpenArray heap.now.cells loc }
+    ensures only { IsOpenArray heap.now.cells loc → result ≡ true }
 {
     match heap.get(loc) {
         Some(cell) => is_open_array(cell),
@@ -48,7 +52,9 @@ fn is_open(heap: &Heap, loc: Loc) -> bool
 
 // Makes an array without elements.
 fn empty_array(state: &mut State) -> Result<Making, StepFault>
-    ensures { (nodes : List kind.Node) → IfOk result (λ made. Makes nodes (λ k. make_array [] k) state.old state.new made) }
+    ensures does { (nodes : List kind.Node) → IfOk result (λ made. Makes nodes (λ k. make_array [] k) state.old state.new made) }
+    ensures closed { (nodes : List kind.Node) → IsClosed nodes state.old → Lasts nodes state.old state.new result }
+    ensures fits { (nodes : List kind.Node) → IsClosed nodes state.old → IfOk result (λ made. IfOk made (λ loc. IsNoEnv nat_eq state.new.heap.cells loc × IsOpen state.new.heap.cells loc)) }
 {
     let items = Items::new(state.alloc);
     match state.make_array(items)? {
@@ -63,7 +69,8 @@ fn empty_array(state: &mut State) -> Result<Making, StepFault>
 /// Errors: `Dangling` where the location is not that of an array that isn't frozen, or where the value can't stand in a
 /// cell; `Memory` where memory runs out.
 pub fn push(state: &mut State, array: Loc, value: Value) -> Result<Option<Next>, StepFault>
-    ensures { (nodes : List kind.Node) → IfOk result (λ ended. Comes nodes (λ p. push_item array value p) state.old state.new ended) }
+    ensures does { (nodes : List kind.Node) → IfOk result (λ ended. Comes nodes (λ p. push_item array value p) state.old state.new ended) }
+    ensures closed { (nodes : List kind.Node) → IsClosed nodes state.old → IsOpen state.old.heap.cells array → ValueFits state.old.heap.cells value → Lasts nodes state.old state.new result }
 {
     if !is_fit(&state.heap, &value) {
         discard(value);
@@ -114,7 +121,8 @@ fn enter_one(
     array: Loc,
     scope: Scope,
 ) -> Result<Next, StepFault>
-    ensures { (nodes : List kind.Node) → IfOk result (λ ended. Does nodes 6 (eval element scope (λ v. push_items array (v ∷ []) (elements_into array (drop next (items_of (slice_get nodes node.0))) scope (give (Value.Ref array))))) state.old state.new ended) }
+    ensures does { (nodes : List kind.Node) → IfOk result (λ ended. Does nodes 6 (eval element scope (λ v. push_items array (v ∷ []) (elements_into array (drop next (items_of (slice_get nodes node.0))) scope (give (Value.Ref array))))) state.old state.new ended) }
+    ensures closed { (nodes : List kind.Node) → IsClosed nodes state.old → IsNoEnv nat_eq state.old.heap.cells array → IsOpen state.old.heap.cells array → ScopeFits nodes state.old.heap.cells scope → Lasts nodes state.old state.new result }
 {
     let inner = copy_scope(state.alloc, &scope)?;
     let frame = LiteralFrame::Element {
@@ -136,7 +144,8 @@ fn enter_spread(
     array: Loc,
     scope: Scope,
 ) -> Result<Next, StepFault>
-    ensures { (nodes : List kind.Node) → IfOk result (λ ended. Does nodes 6 (step (eval list scope (λ v. walk_value v (λ walked. Read (λ w. push_items array (items_at (cell_at walked w)) (elements_into array (drop next (items_of (slice_get nodes node.0))) scope (give (Value.Ref array)))))))) state.old state.new ended) }
+    ensures does { (nodes : List kind.Node) → IfOk result (λ ended. Does nodes 6 (step (eval list scope (λ v. walk_value v (λ walked. Read (λ w. push_items array (items_at (cell_at walked w)) (elements_into array (drop next (items_of (slice_get nodes node.0))) scope (give (Value.Ref array)))))))) state.old state.new ended) }
+    ensures closed { (nodes : List kind.Node) → IsClosed nodes state.old → IsNoEnv nat_eq state.old.heap.cells array → IsOpen state.old.heap.cells array → ScopeFits nodes state.old.heap.cells scope → Lasts nodes state.old state.new result }
 {
     let inner = copy_scope(state.alloc, &scope)?;
     if !state.step_down() {
@@ -164,7 +173,8 @@ fn enter_element(
     array: Loc,
     scope: Scope,
 ) -> Result<Next, StepFault>
-    ensures { IfOk result (λ ended. Does (nodes_of tree.now) 6 (Read (λ w. values_of (slice_get w.tree element.0) element scope (λ vs. push_items array vs (elements_into array (drop next (items_of (slice_get (nodes_of tree.now) node.0))) scope (give (Value.Ref array)))))) state.old state.new ended) }
+    ensures does { IfOk result (λ ended. Does (nodes_of tree.now) 6 (Read (λ w. values_of (slice_get w.tree element.0) element scope (λ vs. push_items array vs (elements_into array (drop next (items_of (slice_get (nodes_of tree.now) node.0))) scope (give (Value.Ref array)))))) state.old state.new ended) }
+    ensures closed { IsClosed (nodes_of tree.now) state.old → IsNoEnv nat_eq state.old.heap.cells array → IsOpen state.old.heap.cells array → ScopeFits (nodes_of tree.now) state.old.heap.cells scope → Lasts (nodes_of tree.now) state.old state.new result }
 {
     match spread_of(tree, element) {
         None => enter_one(state, node, next, element, array, scope),
@@ -181,7 +191,8 @@ pub fn elements_from(
     array: Loc,
     scope: Scope,
 ) -> Result<Next, StepFault>
-    ensures { IfOk result (λ next. Does (nodes_of tree.now) 6 (elements_into array (drop at (items_of (slice_get (nodes_of tree.now) node.0))) scope (give (Value.Ref array))) state.old state.new next) }
+    ensures does { IfOk result (λ next. Does (nodes_of tree.now) 6 (elements_into array (drop at (items_of (slice_get (nodes_of tree.now) node.0))) scope (give (Value.Ref array))) state.old state.new next) }
+    ensures closed { IsClosed (nodes_of tree.now) state.old → IsNoEnv nat_eq state.old.heap.cells array → IsOpen state.old.heap.cells array → ScopeFits (nodes_of tree.now) state.old.heap.cells scope → Lasts (nodes_of tree.now) state.old state.new result }
 {
     match next_of(items_of(tree, node), at) {
         Some((element, next)) => enter_element(state, tree, node, next, element, array, scope),
@@ -199,7 +210,8 @@ pub fn row_array(
     node: NodeId,
     scope: Scope,
 ) -> Result<Next, StepFault>
-    ensures { IfOk result (λ next. Does (nodes_of tree.now) 6 (row_array (items_of (slice_get (nodes_of tree.now) node.0)) scope) state.old state.new next) }
+    ensures does { IfOk result (λ next. Does (nodes_of tree.now) 6 (row_array (items_of (slice_get (nodes_of tree.now) node.0)) scope) state.old state.new next) }
+    ensures closed { IsClosed (nodes_of tree.now) state.old → ScopeFits (nodes_of tree.now) state.old.heap.cells scope → Lasts (nodes_of tree.now) state.old state.new result }
 {
     match empty_array(state)? {
         Ok(array) => elements_from(state, tree, node, 0, array, scope),
@@ -220,7 +232,8 @@ pub fn element_value(
     scope: Scope,
     value: Value,
 ) -> Result<Next, StepFault>
-    ensures { IfOk result (λ ended. Does (nodes_of tree.now) 6 (push_items array (value ∷ []) (elements_into array (drop next (items_of (slice_get (nodes_of tree.now) node.0))) scope (give (Value.Ref array)))) state.old state.new ended) }
+    ensures does { IfOk result (λ ended. Does (nodes_of tree.now) 6 (push_items array (value ∷ []) (elements_into array (drop next (items_of (slice_get (nodes_of tree.now) node.0))) scope (give (Value.Ref array)))) state.old state.new ended) }
+    ensures closed { IsClosed (nodes_of tree.now) state.old → IsNoEnv nat_eq state.old.heap.cells array → IsOpen state.old.heap.cells array → ScopeFits (nodes_of tree.now) state.old.heap.cells scope → ValueFits state.old.heap.cells value → Lasts (nodes_of tree.now) state.old state.new result }
 {
     match push(state, array, value)? {
         None => elements_from(state, tree, node, next, array, scope),

@@ -1,7 +1,8 @@
 //! The members of object literals (ECMA-262, 13.2.5).
-ghost use Rattle.std.specs.Prelude.{◌≡◌, drop, slice_get, true, List, IfOk, Some, None};
+ghost use Rattle.std.specs.Prelude.{◌≡◌, drop, slice_get, true, List, IfOk, MatchResult, Some, None, nat_eq};
 ghost use Rattle.std.specs.Option.{option_copied, option_map};
 ghost use Rattle.js_tree.specs.declared.node.Node as kind;
+ghost use Rattle.world_heap.specs.Heaps.{IsCell, IsNoEnv};
 ghost use Rattle.js_names.specs.Patterns.{nodes_of};
 ghost use Rattle.js_semantics.specs.Access.{define};
 ghost use Rattle.js_semantics.specs.Expressions.{with_key};
@@ -9,6 +10,7 @@ ghost use Rattle.js_semantics.specs.Objects.{make_closure, member_key_of, member
 ghost use Rattle.js_semantics.specs.Operators.{key_of};
 ghost use Rattle.js_semantics.specs.Prog.{done, give};
 ghost use Rattle.js_semantics.specs.Properties.{plain};
+ghost use Rattle.js_machine.specs.Closed.{IsClosed, Lasts, ScopeFits, ValueFits};
 ghost use Rattle.js_machine.specs.Does.{Does};
 ghost use Rattle.js_machine.specs.Frames.{property_key};
 ghost use Rattle.js_machine.specs.Parts.{items_of, key_part, written};
@@ -18,8 +20,7 @@ ghost use Rattle.js_step_object.specs.Members.{computed_by, getter_of, member_in
 use crate::defining::define;
 use crate::functions::{closure_of, plain_object};
 use js_machine::{
-    Frame, LiteralFrame, Next, State, ValueFrame, copy_scope, discard, done, items_of, next_of,
-    node_at,
+    Frame, LiteralFrame, Next, State, ValueFrame, copy_scope, discard, items_of, next_of, node_at,
 };
 use js_operators::{key_of, short_text};
 use js_semantics::{Fault, Outcome, Scope, StepFault};
@@ -60,7 +61,8 @@ pub fn members_from(
     object: Loc,
     scope: Scope,
 ) -> Result<Next, StepFault>
-    ensures { IfOk result (λ next. Does (nodes_of tree.now) 6 (members_into object (drop at (items_of (slice_get (nodes_of tree.now) node.0))) scope (give (Value.Ref object))) state.old state.new next) }
+    ensures does { IfOk result (λ next. Does (nodes_of tree.now) 6 (members_into object (drop at (items_of (slice_get (nodes_of tree.now) node.0))) scope (give (Value.Ref object))) state.old state.new next) }
+    ensures closed { IsClosed (nodes_of tree.now) state.old → IsNoEnv nat_eq state.old.heap.cells object → ScopeFits (nodes_of tree.now) state.old.heap.cells scope → Lasts (nodes_of tree.now) state.old state.new result }
 {
     match next_of(items_of(tree, node), at) {
         Some((member, next)) => {
@@ -87,7 +89,8 @@ pub fn row_object(
     node: NodeId,
     scope: Scope,
 ) -> Result<Next, StepFault>
-    ensures { IfOk result (λ next. Does (nodes_of tree.now) 6 (row_object (items_of (slice_get (nodes_of tree.now) node.0)) scope) state.old state.new next) }
+    ensures does { IfOk result (λ next. Does (nodes_of tree.now) 6 (row_object (items_of (slice_get (nodes_of tree.now) node.0)) scope) state.old state.new next) }
+    ensures closed { IsClosed (nodes_of tree.now) state.old → ScopeFits (nodes_of tree.now) state.old.heap.cells scope → Lasts (nodes_of tree.now) state.old state.new result }
 {
     match plain_object(state)? {
         Ok(object) => members_from(state, tree, node, 0, object, scope),
@@ -98,9 +101,18 @@ pub fn row_object(
     }
 }
 
+// Ends the row of a member, which has no value.
+fn end_member(state: &mut State) -> Result<Next, StepFault>
+    ensures does { (nodes : List kind.Node) → IfOk result (λ next. Does nodes 6 done state.old state.new next) }
+    ensures closed { (nodes : List kind.Node) → IsClosed nodes state.old → Lasts nodes state.old state.new result }
+{
+    state.give(Outcome::Normal(Value::Undefined))
+}
+
 // Defines a plain property, and ends the row of the member.
 fn define_value(state: &mut State, object: Loc, key: Units, value: Value) -> Result<Next, StepFault>
-    ensures { (nodes : List kind.Node) → IfOk result (λ next. Does nodes 6 (define object key (λ old. plain value) done) state.old state.new next) }
+    ensures does { (nodes : List kind.Node) → IfOk result (λ next. Does nodes 6 (define object key (λ old. plain value) done) state.old state.new next) }
+    ensures closed { (nodes : List kind.Node) → IsClosed nodes state.old → ValueFits state.old.heap.cells value → Lasts nodes state.old state.new result }
 {
     let property = Property::Data {
         value,
@@ -109,7 +121,7 @@ fn define_value(state: &mut State, object: Loc, key: Units, value: Value) -> Res
         configurable: true,
     };
     match define(state, object, key, property)? {
-        None => done(state),
+        None => end_member(state),
         Some(next) => Ok(next),
     }
 }
@@ -123,7 +135,8 @@ pub fn property_value(
     object: Loc,
     value: Value,
 ) -> Result<Next, StepFault>
-    ensures { IfOk result (λ next. Does (nodes_of tree.now) 6 (define object (property_key (nodes_of tree.now) node key) (λ old. plain value) done) state.old state.new next) }
+    ensures does { IfOk result (λ next. Does (nodes_of tree.now) 6 (define object (property_key (nodes_of tree.now) node key) (λ old. plain value) done) state.old state.new next) }
+    ensures closed { IsClosed (nodes_of tree.now) state.old → ValueFits state.old.heap.cells value → Lasts (nodes_of tree.now) state.old state.new result }
 {
     match own_key(state.alloc, tree, node, key) {
         Ok(key) => define_value(state, object, key, value),
@@ -136,7 +149,7 @@ pub fn property_value(
 
 // The key that is written in a member.
 fn written_key(alloc: Global, key: &PropertyKey) -> Result<Units, StepFault>
-    ensures { IfOk result (λ text. text ≡ written key.now) }
+    ensures { MatchResult result (λ text. text ≡ written key.now) (λ fault. fault ≡ StepFault.Memory) }
 {
     match key {
         PropertyKey::Written(text) => Ok(text.copy(alloc)?),
@@ -160,7 +173,7 @@ fn key_in(member: &Node) -> Option<&PropertyKey>
 // The key that is written in a member, or none.
 #[tactic(auto, unfolding(js_machine::specs::Parts::key_part))]
 fn written_in(alloc: Global, member: &Node) -> Result<Units, StepFault>
-    ensures { IfOk result (λ text. text ≡ key_part (Some member.now)) }
+    ensures { MatchResult result (λ text. text ≡ key_part (Some member.now)) (λ fault. fault ≡ StepFault.Memory) }
 {
     match member {
         Node::Property { key, .. } => written_key(alloc, key),
@@ -174,7 +187,7 @@ fn written_in(alloc: Global, member: &Node) -> Result<Units, StepFault>
 // The key that is written in a node, or none.
 #[tactic(auto, unfolding(js_machine::specs::Parts::key_part))]
 fn key_part(alloc: Global, tree: &Tree, node: NodeId) -> Result<Units, StepFault>
-    ensures { IfOk result (λ text. text ≡ key_part (slice_get (nodes_of tree.now) node.0)) }
+    ensures { MatchResult result (λ text. text ≡ key_part (slice_get (nodes_of tree.now) node.0)) (λ fault. fault ≡ StepFault.Memory) }
 {
     match node_at(tree, node) {
         Some(member) => written_in(alloc, member),
@@ -184,7 +197,7 @@ fn key_part(alloc: Global, tree: &Tree, node: NodeId) -> Result<Units, StepFault
 
 // The key of a member, which is written in it where it isn't this text.
 fn own_key(alloc: Global, tree: &Tree, node: NodeId, key: Option<Units>) -> Result<Units, StepFault>
-    ensures { IfOk result (λ text. text ≡ property_key (nodes_of tree.now) node key) }
+    ensures { MatchResult result (λ text. text ≡ property_key (nodes_of tree.now) node key) (λ fault. fault ≡ StepFault.Memory) }
 {
     match key {
         Some(key) => Ok(key),
@@ -281,7 +294,8 @@ fn define_function(
     key: Units,
     part: Part,
 ) -> Result<Next, StepFault>
-    ensures { (nodes : List kind.Node) → IfOk result (λ next. Does nodes 6 (make_closure node env None (λ f. define object key (λ old. member_property part f old) done)) state.old state.new next) }
+    ensures does { (nodes : List kind.Node) → IfOk result (λ next. Does nodes 6 (make_closure node env None (λ f. define object key (λ old. member_property part f old) done)) state.old state.new next) }
+    ensures closed { (nodes : List kind.Node) → IsClosed nodes state.old → IsCell nat_eq state.old.heap.cells env → Lasts nodes state.old state.new result }
 {
     let function = match closure_of(state, node, env, None)? {
         Ok(function) => function,
@@ -292,7 +306,7 @@ fn define_function(
     };
     let property = property_of(&state.heap, object, &key, part, function);
     match define(state, object, key, property)? {
-        None => done(state),
+        None => end_member(state),
         Some(next) => Ok(next),
     }
 }
@@ -329,7 +343,8 @@ fn define_member(
     scope: Scope,
     key: Option<Units>,
 ) -> Result<Next, StepFault>
-    ensures { IfOk result (λ next. Does (nodes_of tree.now) 6 (member_under (slice_get (nodes_of tree.now) node.0) node object scope (property_key (nodes_of tree.now) node key)) state.old state.new next) }
+    ensures does { IfOk result (λ next. Does (nodes_of tree.now) 6 (member_under (slice_get (nodes_of tree.now) node.0) node object scope (property_key (nodes_of tree.now) node key)) state.old state.new next) }
+    ensures closed { IsClosed (nodes_of tree.now) state.old → IsNoEnv nat_eq state.old.heap.cells object → ScopeFits (nodes_of tree.now) state.old.heap.cells scope → Lasts (nodes_of tree.now) state.old state.new result }
 {
     match member_at(tree, node) {
         Member::Value(value) => {
@@ -345,7 +360,7 @@ fn define_member(
         Member::Nothing => {
             discard(key);
             discard(scope);
-            done(state)
+            end_member(state)
         }
     }
 }
@@ -359,7 +374,8 @@ pub fn member_keyed(
     scope: Scope,
     value: Value,
 ) -> Result<Next, StepFault>
-    ensures { IfOk result (λ next. Does (nodes_of tree.now) 6 (with_key (key_of value) (λ text. member_under (slice_get (nodes_of tree.now) node.0) node object scope text)) state.old state.new next) }
+    ensures does { IfOk result (λ next. Does (nodes_of tree.now) 6 (with_key (key_of value) (λ text. member_under (slice_get (nodes_of tree.now) node.0) node object scope text)) state.old state.new next) }
+    ensures closed { IsClosed (nodes_of tree.now) state.old → IsNoEnv nat_eq state.old.heap.cells object → ScopeFits (nodes_of tree.now) state.old.heap.cells scope → Lasts (nodes_of tree.now) state.old state.new result }
 {
     let key = key_of(state.alloc, &value)?;
     discard(value);
@@ -403,7 +419,8 @@ pub fn row_member(
     object: Loc,
     scope: Scope,
 ) -> Result<Next, StepFault>
-    ensures { IfOk result (λ next. Does (nodes_of tree.now) 6 (member_of (slice_get (nodes_of tree.now) node.0) node object scope) state.old state.new next) }
+    ensures does { IfOk result (λ next. Does (nodes_of tree.now) 6 (member_of (slice_get (nodes_of tree.now) node.0) node object scope) state.old state.new next) }
+    ensures closed { IsClosed (nodes_of tree.now) state.old → IsNoEnv nat_eq state.old.heap.cells object → ScopeFits (nodes_of tree.now) state.old.heap.cells scope → Lasts (nodes_of tree.now) state.old state.new result }
 {
     match key_node(tree, node) {
         Some(Some(key)) => {
@@ -418,7 +435,7 @@ pub fn row_member(
         Some(None) => define_member(state, tree, node, object, scope, None),
         None => {
             discard(scope);
-            done(state)
+            end_member(state)
         }
     }
 }
