@@ -6,3 +6,4 @@ mod Joining
 mod Storing
 pub mod Lookups
 mod Rebinding
+pub mod Fitting
