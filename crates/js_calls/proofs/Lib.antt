@@ -6,4 +6,6 @@ mod Joining
 mod Storing
 pub mod Lookups
 mod Rebinding
-pub mod Fitting
+mod Fitting
+mod Stored
+mod Meanings

@@ -2,11 +2,9 @@
 use Rattle.std.specs.Prelude.{ℕ, nat_eq, List}
 use Rattle.world_heap.specs.declared.cell.Cell.{Cell}
 use Rattle.world_heap.specs.Over.{ListOver, OptionOver}
-use Rattle.world_heap.specs.Heaps.{IsCell, IsNoEnv}
+use Rattle.world_heap.specs.Heaps.{IsCell}
 use Rattle.proto_props.specs.declared.get.Got.{Got}
 use Rattle.proto_props.specs.declared.get.Got.TheVariants as got
-use Rattle.proto_props.specs.declared.outcome.SetDone.{SetDone}
-use Rattle.proto_props.specs.declared.outcome.SetDone.TheVariants as done
 use Rattle.js_machine.specs.Closed.{ValueFits}
 use Rattle.js_calls.specs.declared.callee.Callee.{Callee}
 use Rattle.js_calls.specs.declared.callee.Callee.TheVariants as callees
@@ -50,15 +48,9 @@ module _ (cells : List (ℕ × Cell ℕ)) where
   TargetFits (targets.Global v) = ValueFits cells v
   TargetFits targets.Nowhere = Unit {0}
 
-  -- what reading a property gives (ECMA-262, 10.1.8)
+  -- what reading a property gives (ECMA-262, 10.1.8); what is called may be any value
   abbrev pub GotFits : Got ℕ → Type 0
   GotFits (got.Value v) = ValueFits cells v
-  GotFits (got.CallGetter getter) = IsNoEnv nat_eq cells getter
+  GotFits (got.CallGetter getter) = Unit {0}
   GotFits got.Absent = Unit {0}
   GotFits got.Refused = Unit {0}
-
-  -- what writing a property has done (ECMA-262, 10.1.9)
-  abbrev pub DoneFits : SetDone ℕ → Type 0
-  DoneFits done.Done = Unit {0}
-  DoneFits (done.CallSetter setter) = IsNoEnv nat_eq cells setter
-  DoneFits (done.Refused refusal) = Unit {0}
