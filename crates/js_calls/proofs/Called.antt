@@ -25,7 +25,6 @@ use Rattle.js_semantics.proofs.Programs.{bind_assoc}
 use Rattle.js_machine.specs.declared.frame.Frame.{Frame}
 use Rattle.js_machine.specs.declared.frame.Frame.TheVariants as frames
 use Rattle.js_machine.specs.declared.frame.AfterFrame.{AfterFrame}
-use Rattle.js_machine.specs.declared.frame.AfterFrame.TheVariants as afters
 use Rattle.js_machine.specs.declared.state.State.{State}
 use Rattle.js_machine.specs.declared.state.Next.{Next}
 use Rattle.js_machine.specs.declared.state.Next.TheVariants.{Made}

@@ -6,3 +6,6 @@ mod Joining
 mod Storing
 pub mod Lookups
 mod Rebinding
+mod Fitting
+mod Stored
+mod Meanings

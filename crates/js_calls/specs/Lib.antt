@@ -5,3 +5,4 @@ pub mod Reading
 pub mod Writing
 pub mod Naming
 pub mod Assigning
+pub mod Closed

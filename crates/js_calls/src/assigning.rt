@@ -1,12 +1,14 @@
 //! Writing a name: a binding, or a property of the global object (ECMA-262, 6.2.5.6: PutValue; 9.1.1.1.5).
-ghost use Rattle.std.specs.Prelude.{◌≡◌, ℕ, List, IfOk};
+ghost use Rattle.std.specs.Prelude.{◌≡◌, ℕ, List, IfOk, MatchResult};
 ghost use Rattle.js_tree.specs.declared.node.Node as kind;
 ghost use Rattle.js_names.specs.Patterns.{nodes_of};
 ghost use Rattle.js_semantics.specs.Prog.{change, give, throw};
 ghost use Rattle.js_semantics.specs.Access.{global_holder, write_name};
 ghost use Rattle.js_semantics.specs.Environments.{bind_in, binding_of};
+ghost use Rattle.js_machine.specs.Closed.{IsClosed, Lasts, ValueFits};
 ghost use Rattle.js_machine.specs.Does.{Does, world_of};
 ghost use Rattle.js_calls.specs.Assigning.{binding_target, target_of, write_by};
+ghost use Rattle.js_calls.specs.Closed.{TargetFits};
 
 use crate::naming::global_holder;
 use crate::setting::set;
@@ -48,7 +50,8 @@ fn binding_target(env: Loc, binding: &Binding) -> Target
 // What a name stands for where it is written.
 #[tactic(auto, unfolding(crate::specs::Assigning::target_of))]
 fn target_of(state: &State, env: Loc, name: &Units) -> Result<Target, StepFault>
-    ensures { (nodes : List kind.Node) (supply : ℕ → ℕ) → IfOk result (λ target. target ≡ target_of (binding_of env name.now (world_of nodes supply state.now)) (global_holder name.now (world_of nodes supply state.now))) }
+    ensures is { (nodes : List kind.Node) (supply : ℕ → ℕ) → IfOk result (λ target. target ≡ target_of (binding_of env name.now (world_of nodes supply state.now)) (global_holder name.now (world_of nodes supply state.now))) }
+    ensures closed { (nodes : List kind.Node) → IsClosed nodes state.now → MatchResult result (λ target. TargetFits state.now.heap.cells target) (λ fault. fault ≡ StepFault.Memory) }
 {
     match binding_of(&state.heap, env, name) {
         Some(found) => Ok(binding_target(found.0, found.1)),
@@ -67,7 +70,8 @@ fn rebind(
     value: Value,
     result_value: Value,
 ) -> Result<Next, StepFault>
-    ensures { (nodes : List kind.Node) → IfOk result (λ next. Does nodes 4 (change (bind_in env name.now value) (give result_value)) state.old state.new next) }
+    ensures does { (nodes : List kind.Node) → IfOk result (λ next. Does nodes 4 (change (bind_in env name.now value) (give result_value)) state.old state.new next) }
+    ensures closed { (nodes : List kind.Node) → IsClosed nodes state.old → ValueFits state.old.heap.cells value → ValueFits state.old.heap.cells result_value → Lasts nodes state.old state.new result }
 {
     bind_in(state.alloc, &mut state.heap, env, name, value)?;
     state.give(Outcome::Normal(result_value))
@@ -80,7 +84,8 @@ fn refuse(
     value: Value,
     result_value: Value,
 ) -> Result<Next, StepFault>
-    ensures { (nodes : List kind.Node) → IfOk result (λ next. Does nodes 4 (throw fault) state.old state.new next) }
+    ensures does { (nodes : List kind.Node) → IfOk result (λ next. Does nodes 4 (throw fault) state.old state.new next) }
+    ensures closed { (nodes : List kind.Node) → IsClosed nodes state.old → Lasts nodes state.old state.new result }
 {
     discard(value);
     discard(result_value);
@@ -97,7 +102,8 @@ fn write(
     value: Value,
     result_value: Value,
 ) -> Result<Next, StepFault>
-    ensures { IfOk result (λ next. Does (nodes_of tree.now) 4 (write_by target name.now value (give result_value)) state.old state.new next) }
+    ensures does { IfOk result (λ next. Does (nodes_of tree.now) 4 (write_by target name.now value (give result_value)) state.old state.new next) }
+    ensures closed { IsClosed (nodes_of tree.now) state.old → TargetFits state.old.heap.cells target → ValueFits state.old.heap.cells value → ValueFits state.old.heap.cells result_value → Lasts (nodes_of tree.now) state.old state.new result }
 {
     match target {
         Target::Open(env) => rebind(state, env, name, value, result_value),
@@ -125,7 +131,8 @@ pub fn write_name(
     value: Value,
     result_value: Value,
 ) -> Result<Next, StepFault>
-    ensures { IfOk result (λ next. Does (nodes_of tree.now) 4 (write_name env name.now value (give result_value)) state.old state.new next) }
+    ensures does { IfOk result (λ next. Does (nodes_of tree.now) 4 (write_name env name.now value (give result_value)) state.old state.new next) }
+    ensures closed { IsClosed (nodes_of tree.now) state.old → ValueFits state.old.heap.cells value → ValueFits state.old.heap.cells result_value → Lasts (nodes_of tree.now) state.old state.new result }
 {
     let target = target_of(state, env, name)?;
     write(state, tree, target, name, value, result_value)

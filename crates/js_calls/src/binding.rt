@@ -1,10 +1,12 @@
 //! The parameters of a function that is called (ECMA-262, 10.2.11 and 8.6.3).
-ghost use Rattle.std.specs.Prelude.{◌≡◌, ◌+◌, ℕ, [], ◌∷◌, List, drop, slice_get, IfOk, Some, None};
+ghost use Rattle.std.specs.Prelude.{◌≡◌, ◌+◌, ℕ, [], ◌∷◌, List, drop, slice_get, IfOk, MatchResult, Some, None};
 ghost use Rattle.world_heap.specs.declared.value.Value as kept;
+ghost use Rattle.world_heap.specs.Over.{ListOver};
 ghost use Rattle.js_tree.specs.declared.node.Node as kind;
 ghost use Rattle.js_names.specs.Patterns.{nodes_of};
 ghost use Rattle.js_semantics.specs.Prog.{Bind, Enter, eval, on_value};
 ghost use Rattle.js_semantics.specs.Access.{bind_value, first_of};
+ghost use Rattle.js_machine.specs.Closed.{FrameFits, IsClosed, Lasts, ScopeFits, ValueFits};
 ghost use Rattle.js_machine.specs.Does.{Does};
 ghost use Rattle.js_machine.specs.Frames.{call_rest, parameters_rest};
 ghost use Rattle.js_machine.specs.Parts.{parameters_from, rest_parameter};
@@ -26,7 +28,8 @@ fn enter_part(
     node: NodeId,
     scope: Scope,
 ) -> Result<Next, StepFault>
-    ensures { (nodes : List kind.Node) → IfOk result (λ next. Does nodes 2 (eval node scope (λ v. call_rest nodes frame v)) state.old state.new next) }
+    ensures does { (nodes : List kind.Node) → IfOk result (λ next. Does nodes 2 (eval node scope (λ v. call_rest nodes frame v)) state.old state.new next) }
+    ensures closed { (nodes : List kind.Node) → IsClosed nodes state.old → FrameFits nodes state.old.heap.cells (Frame.OnValue (ValueFrame.Call frame)) → ScopeFits nodes state.old.heap.cells scope → Lasts nodes state.old state.new result }
 {
     state.enter(Frame::OnValue(ValueFrame::Call(frame)), node, scope)
 }
@@ -41,6 +44,7 @@ fn bind_part(
 ) -> Result<Next, StepFault>
     ensures few { (nodes : List kind.Node) → IfOk result (λ next. Does nodes 2 (Enter (Bind pattern value scope) (λ o. on_value (λ v. call_rest nodes frame v) o)) state.old state.new next) }
     ensures many { (nodes : List kind.Node) → IfOk result (λ next. Does nodes 6 (Enter (Bind pattern value scope) (λ o. on_value (λ v. call_rest nodes frame v) o)) state.old state.new next) }
+    ensures closed { (nodes : List kind.Node) → IsClosed nodes state.old → FrameFits nodes state.old.heap.cells (Frame.OnValue (ValueFrame.Call frame)) → ValueFits state.old.heap.cells value → ScopeFits nodes state.old.heap.cells scope → Lasts nodes state.old state.new result }
 {
     state.bind(
         Frame::OnValue(ValueFrame::Call(frame)),
@@ -53,7 +57,7 @@ fn bind_part(
 // The argument at a place; a missing one is undefined.
 #[tactic(auto, using(crate::proofs::Defaulted::first_some, crate::proofs::Defaulted::first_none))]
 fn argument_at(alloc: Global, arguments: &Items<Value>, at: usize) -> Result<Value, StepFault>
-    ensures { IfOk result (λ value. value ≡ first_of (drop at arguments.now)) }
+    ensures { MatchResult result (λ value. value ≡ first_of (drop at arguments.now)) (λ fault. fault ≡ StepFault.Memory) }
 {
     match arguments.get(at) {
         Some(value) => Ok(value.copy(alloc)?),
@@ -68,7 +72,7 @@ fn arguments_from(
     arguments: &Items<Value>,
     at: usize,
 ) -> Result<Items<Value>, StepFault>
-    ensures { IfOk result (λ rest. rest ≡ drop at arguments.now) }
+    ensures { MatchResult result (λ rest. rest ≡ drop at arguments.now) (λ fault. fault ≡ StepFault.Memory) }
 {
     if at < arguments.len() {
         copy_values(alloc, &arguments.as_slice()[at..])
@@ -89,6 +93,7 @@ fn bind_parameter(
 ) -> Result<Next, StepFault>
     ensures few { (nodes : List kind.Node) → IfOk result (λ next_is. Does nodes 2 (bind_value pattern value scope (parameters_rest nodes node next arguments scope)) state.old state.new next_is) }
     ensures many { (nodes : List kind.Node) → IfOk result (λ next_is. Does nodes 6 (bind_value pattern value scope (parameters_rest nodes node next arguments scope)) state.old state.new next_is) }
+    ensures closed { (nodes : List kind.Node) → IsClosed nodes state.old → ValueFits state.old.heap.cells value → ListOver (ValueFits state.old.heap.cells) arguments → ScopeFits nodes state.old.heap.cells scope → Lasts nodes state.old state.new result }
 {
     let inner = copy_scope(state.alloc, &scope)?;
     let frame = CallFrame::ParameterBound {
@@ -110,8 +115,9 @@ fn parameter(
     arguments: Items<Value>,
     scope: Scope,
 ) -> Result<Next, StepFault>
-    ensures { (nodes : List kind.Node) → drop at (parameters_from (slice_get nodes node.0)) ≡ element ∷ drop next (parameters_from (slice_get nodes node.0)) → next ≡ at + 1
+    ensures does { (nodes : List kind.Node) → drop at (parameters_from (slice_get nodes node.0)) ≡ element ∷ drop next (parameters_from (slice_get nodes node.0)) → next ≡ at + 1
         → IfOk result (λ next_is. Does nodes 2 (parameters_rest nodes node at arguments scope) state.old state.new next_is) }
+    ensures closed { (nodes : List kind.Node) → IsClosed nodes state.old → ListOver (ValueFits state.old.heap.cells) arguments → ScopeFits nodes state.old.heap.cells scope → Lasts nodes state.old state.new result }
 {
     let value = argument_at(state.alloc, &arguments, at)?;
     match default_of(&value, element.default) {
@@ -138,8 +144,9 @@ fn rest(
     arguments: &Items<Value>,
     scope: Scope,
 ) -> Result<Next, StepFault>
-    ensures { (nodes : List kind.Node) → drop at (parameters_from (slice_get nodes node.0)) ≡ [] → rest_parameter (slice_get nodes node.0) ≡ Some pattern
+    ensures does { (nodes : List kind.Node) → drop at (parameters_from (slice_get nodes node.0)) ≡ [] → rest_parameter (slice_get nodes node.0) ≡ Some pattern
         → IfOk result (λ next. Does nodes 2 (parameters_rest nodes node at arguments.now scope) state.old state.new next) }
+    ensures closed { (nodes : List kind.Node) → IsClosed nodes state.old → ListOver (ValueFits state.old.heap.cells) arguments.now → ScopeFits nodes state.old.heap.cells scope → Lasts nodes state.old state.new result }
 {
     let items = arguments_from(state.alloc, arguments, at)?;
     match state.make_array(items)? {
@@ -161,8 +168,9 @@ fn last(
     arguments: Items<Value>,
     scope: Scope,
 ) -> Result<Next, StepFault>
-    ensures { drop at (parameters_from (slice_get (nodes_of tree.now) node.0)) ≡ []
+    ensures does { drop at (parameters_from (slice_get (nodes_of tree.now) node.0)) ≡ []
         → IfOk result (λ next. Does (nodes_of tree.now) 2 (parameters_rest (nodes_of tree.now) node at arguments scope) state.old state.new next) }
+    ensures closed { IsClosed (nodes_of tree.now) state.old → ListOver (ValueFits state.old.heap.cells) arguments → ScopeFits (nodes_of tree.now) state.old.heap.cells scope → Lasts (nodes_of tree.now) state.old state.new result }
 {
     match rest_parameter(tree, node) {
         Some(pattern) => rest(state, pattern, node, at, &arguments, scope),
@@ -184,7 +192,8 @@ pub fn parameters(
     arguments: Items<Value>,
     scope: Scope,
 ) -> Result<Next, StepFault>
-    ensures { IfOk result (λ next. Does (nodes_of tree.now) 2 (parameters_rest (nodes_of tree.now) node at arguments scope) state.old state.new next) }
+    ensures does { IfOk result (λ next. Does (nodes_of tree.now) 2 (parameters_rest (nodes_of tree.now) node at arguments scope) state.old state.new next) }
+    ensures closed { IsClosed (nodes_of tree.now) state.old → ListOver (ValueFits state.old.heap.cells) arguments → ScopeFits (nodes_of tree.now) state.old.heap.cells scope → Lasts (nodes_of tree.now) state.old state.new result }
 {
     match parameter_at(tree, node, at) {
         Some((element, next)) => parameter(state, element, node, at, next, arguments, scope),
@@ -205,7 +214,8 @@ pub fn parameter_default(
     scope: Scope,
     value: Value,
 ) -> Result<Next, StepFault>
-    ensures { IfOk result (λ next. Does (nodes_of tree.now) 6 (call_rest (nodes_of tree.now) (CallFrame.ParameterDefault node at arguments scope) value) state.old state.new next) }
+    ensures does { IfOk result (λ next. Does (nodes_of tree.now) 6 (call_rest (nodes_of tree.now) (CallFrame.ParameterDefault node at arguments scope) value) state.old state.new next) }
+    ensures closed { IsClosed (nodes_of tree.now) state.old → ListOver (ValueFits state.old.heap.cells) arguments → ScopeFits (nodes_of tree.now) state.old.heap.cells scope → ValueFits state.old.heap.cells value → Lasts (nodes_of tree.now) state.old state.new result }
 {
     match parameter_at(tree, node, at) {
         Some((element, next)) => {
@@ -227,7 +237,8 @@ pub fn parameter_bound(
     arguments: Items<Value>,
     scope: Scope,
 ) -> Result<Next, StepFault>
-    ensures { (u : kept.Value ℕ) → IfOk result (λ next_is. Does (nodes_of tree.now) 6 (call_rest (nodes_of tree.now) (CallFrame.ParameterBound node next arguments scope) u) state.old state.new next_is) }
+    ensures does { (u : kept.Value ℕ) → IfOk result (λ next_is. Does (nodes_of tree.now) 6 (call_rest (nodes_of tree.now) (CallFrame.ParameterBound node next arguments scope) u) state.old state.new next_is) }
+    ensures closed { IsClosed (nodes_of tree.now) state.old → ListOver (ValueFits state.old.heap.cells) arguments → ScopeFits (nodes_of tree.now) state.old.heap.cells scope → Lasts (nodes_of tree.now) state.old state.new result }
 {
     parameters(state, tree, node, next, arguments, scope)
 }
@@ -242,7 +253,8 @@ pub fn rest_bound(
     node: NodeId,
     scope: Scope,
 ) -> Result<Next, StepFault>
-    ensures { (u : kept.Value ℕ) → IfOk result (λ next. Does (nodes_of tree.now) 6 (call_rest (nodes_of tree.now) (CallFrame.RestBound node scope) u) state.old state.new next) }
+    ensures does { (u : kept.Value ℕ) → IfOk result (λ next. Does (nodes_of tree.now) 6 (call_rest (nodes_of tree.now) (CallFrame.RestBound node scope) u) state.old state.new next) }
+    ensures closed { IsClosed (nodes_of tree.now) state.old → ScopeFits (nodes_of tree.now) state.old.heap.cells scope → Lasts (nodes_of tree.now) state.old state.new result }
 {
     state.jump(body_of(tree, node), scope)
 }

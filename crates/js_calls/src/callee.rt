@@ -1,7 +1,8 @@
 //! What is called.
-ghost use Rattle.std.specs.Prelude.{◌≡◌, ℕ, IfOk, Some};
+ghost use Rattle.std.specs.Prelude.{◌≡◌, ℕ, IfOk, MatchResult, Some};
 ghost use Rattle.js_semantics.specs.World.{World, cell_of, over};
 ghost use Rattle.js_calls.specs.Callees.{callee_in};
+ghost use Rattle.js_calls.specs.Closed.{CalleeFits};
 
 use js_semantics::StepFault;
 use std::alloc::Global;
@@ -24,7 +25,7 @@ pub enum Callee<L = Loc> {
 
 // The same value again, where there is one.
 fn copy_kept(alloc: Global, value: &Option<Value>) -> Result<Option<Value>, StepFault>
-    ensures { IfOk result (λ copy. copy ≡ value.now) }
+    ensures { MatchResult result (λ copy. copy ≡ value.now) (λ fault. fault ≡ StepFault.Memory) }
 {
     match value {
         Some(value) => Ok(Some(value.copy(alloc)?)),
@@ -35,7 +36,7 @@ fn copy_kept(alloc: Global, value: &Option<Value>) -> Result<Option<Value>, Step
 // The function that a cell is.
 #[tactic(auto, unfolding(crate::specs::Callees::callee_in))]
 fn cell_callee(alloc: Global, cell: &Cell) -> Result<Callee, StepFault>
-    ensures { IfOk result (λ callee. callee ≡ callee_in (Some cell.now)) }
+    ensures { MatchResult result (λ callee. callee ≡ callee_in (Some cell.now)) (λ fault. fault ≡ StepFault.Memory) }
 {
     match cell {
         Cell::Closure {
@@ -62,7 +63,8 @@ fn cell_callee(alloc: Global, cell: &Cell) -> Result<Callee, StepFault>
 /// `Memory` where there is none.
 #[tactic(auto, unfolding(crate::specs::Callees::callee_in))]
 pub fn callee_of(alloc: Global, heap: &Heap, value: &Value) -> Result<Callee, StepFault>
-    ensures { (w : World ℕ) → IfOk result (λ callee. callee ≡ callee_in (cell_of value.now (over heap.now w))) }
+    ensures is { (w : World ℕ) → IfOk result (λ callee. callee ≡ callee_in (cell_of value.now (over heap.now w))) }
+    ensures closed { MatchResult result (λ callee. CalleeFits heap.now.cells callee) (λ fault. fault ≡ StepFault.Memory) }
 {
     match value {
         Value::Ref(loc) => match heap.get(*loc) {

@@ -1,11 +1,14 @@
 //! Calls of functions (ECMA-262, 7.3.14: Call; 10.2.1: calls of closures).
-ghost use Rattle.std.specs.Prelude.{◌≡◌, ◌≤◌, ◌<◌, ◌++◌, ℕ, IfOk, OnOk, Option, Some, slice_get, unwrap_or};
+ghost use Rattle.std.specs.Prelude.{◌≡◌, ◌≤◌, ◌<◌, ◌++◌, ℕ, List, IfOk, OnOk, Option, Some, slice_get, unwrap_or};
+ghost use Rattle.world_heap.specs.Over.{ListOver, OptionOver};
 ghost use Rattle.js_tree.specs.declared.node.Node as kind;
 ghost use Rattle.js_names.specs.Patterns.{nodes_of};
 ghost use Rattle.js_semantics.specs.Prog.{bind, give, on_value};
 ghost use Rattle.js_semantics.specs.Access.{call, function_of, invoke, leave, run_function};
+ghost use Rattle.js_machine.specs.Closed.{AfterFits, IsClosed, Lasts, ScopeFits, ValueFits};
 ghost use Rattle.js_machine.specs.Does.{Does, weight};
 ghost use Rattle.js_machine.specs.Frames.{after_rest, parameters_rest};
+ghost use Rattle.js_calls.specs.Closed.{CalleeFits, InvocationFits};
 ghost use Rattle.js_calls.specs.Calling.{after_frame, allowance, by_callee, call_frames, ending};
 
 use crate::binding::parameters;
@@ -31,6 +34,7 @@ pub(crate) struct Invocation<L = Loc> {
 fn push_call(state: &mut State, frame: Option<AfterFrame>) -> Result<(), StepFault>
     ensures frames { OnOk result (state.new.frames.items ≡ state.old.frames.items ++ call_frames frame) }
     ensures rest { state.new ≡ record state.old { frames = state.new.frames } }
+    ensures closed { (nodes : List kind.Node) → IsClosed nodes state.old → OptionOver (AfterFits nodes state.old.heap.cells) frame → Lasts nodes state.old state.new result }
 {
     match frame {
         Some(frame) => {
@@ -54,8 +58,9 @@ fn enter_body(
     scope: Scope,
     frame: Option<AfterFrame>,
 ) -> Result<Next, StepFault>
-    ensures { (n : ℕ) → allowance frame ≤ n → IfOk result (λ next. Does (nodes_of tree.now) n
+    ensures does { (n : ℕ) → allowance frame ≤ n → IfOk result (λ next. Does (nodes_of tree.now) n
         (bind (parameters_rest (nodes_of tree.now) node 0 arguments scope) (leave (on_value (ending (nodes_of tree.now) frame)))) state.old state.new next) }
+    ensures closed { IsClosed (nodes_of tree.now) state.old → ListOver (ValueFits state.old.heap.cells) arguments → ScopeFits (nodes_of tree.now) state.old.heap.cells scope → OptionOver (AfterFits (nodes_of tree.now) state.old.heap.cells) frame → Lasts (nodes_of tree.now) state.old state.new result }
 {
     push_call(state, frame)?;
     parameters(state, tree, node, 0, arguments, scope)
@@ -69,8 +74,9 @@ fn run_function(
     invocation: Invocation,
     frame: Option<AfterFrame>,
 ) -> Result<Next, StepFault>
-    ensures { (n : ℕ) → allowance frame ≤ n → function_of (slice_get (nodes_of tree.now) invocation.node.0) ≡ Some function.now
+    ensures does { (n : ℕ) → allowance frame ≤ n → function_of (slice_get (nodes_of tree.now) invocation.node.0) ≡ Some function.now
         → IfOk result (λ next. Does (nodes_of tree.now) n (run_function function.now invocation.env invocation.receiver invocation.arguments (on_value (ending (nodes_of tree.now) frame))) state.old state.new next) }
+    ensures closed { IsClosed (nodes_of tree.now) state.old → InvocationFits state.old.heap.cells invocation → OptionOver (AfterFits (nodes_of tree.now) state.old.heap.cells) frame → Lasts (nodes_of tree.now) state.old state.new result }
 {
     let bindings = parameters_of(state.alloc, tree, function)?;
     match state.make_environment(Some(invocation.env), bindings)? {
@@ -101,8 +107,9 @@ fn activate(
     frame: Option<AfterFrame>,
 ) -> Result<Next, StepFault>
     requires { state.old.depth < state.old.heap.limits.depth }
-    ensures { (n : ℕ) → allowance frame ≤ n → function_of (slice_get (nodes_of tree.now) invocation.node.0) ≡ Some function.now
+    ensures does { (n : ℕ) → allowance frame ≤ n → function_of (slice_get (nodes_of tree.now) invocation.node.0) ≡ Some function.now
         → IfOk result (λ next. Does (nodes_of tree.now) n (invoke invocation.node.0 invocation.env invocation.receiver invocation.arguments (on_value (ending (nodes_of tree.now) frame))) state.old state.new next) }
+    ensures closed { IsClosed (nodes_of tree.now) state.old → InvocationFits state.old.heap.cells invocation → OptionOver (AfterFits (nodes_of tree.now) state.old.heap.cells) frame → Lasts (nodes_of tree.now) state.old state.new result }
 {
     let _limits = state.heap.limits();
     state.depth += 1;
@@ -116,8 +123,9 @@ pub(crate) fn invoke(
     invocation: Invocation,
     frame: Option<AfterFrame>,
 ) -> Result<Next, StepFault>
-    ensures { (n : ℕ) → allowance frame ≤ n
+    ensures does { (n : ℕ) → allowance frame ≤ n
         → IfOk result (λ next. Does (nodes_of tree.now) n (invoke invocation.node.0 invocation.env invocation.receiver invocation.arguments (on_value (ending (nodes_of tree.now) frame))) state.old state.new next) }
+    ensures closed { IsClosed (nodes_of tree.now) state.old → InvocationFits state.old.heap.cells invocation → OptionOver (AfterFits (nodes_of tree.now) state.old.heap.cells) frame → Lasts (nodes_of tree.now) state.old state.new result }
 {
     match function_at(tree, invocation.node) {
         Some(function) => {
@@ -169,8 +177,9 @@ fn call_as(
     arguments: Items<Value>,
     frame: Option<AfterFrame>,
 ) -> Result<Next, StepFault>
-    ensures { (n : ℕ) → allowance frame ≤ n
+    ensures does { (n : ℕ) → allowance frame ≤ n
         → IfOk result (λ next. Does (nodes_of tree.now) n (by_callee callee receiver arguments (ending (nodes_of tree.now) frame)) state.old state.new next) }
+    ensures closed { IsClosed (nodes_of tree.now) state.old → CalleeFits state.old.heap.cells callee → ValueFits state.old.heap.cells receiver → ListOver (ValueFits state.old.heap.cells) arguments → OptionOver (AfterFits (nodes_of tree.now) state.old.heap.cells) frame → Lasts (nodes_of tree.now) state.old state.new result }
 {
     match callee {
         Callee::Closure {
@@ -205,8 +214,9 @@ fn call(
     arguments: Items<Value>,
     frame: Option<AfterFrame>,
 ) -> Result<Next, StepFault>
-    ensures { (n : ℕ) → allowance frame ≤ n
+    ensures does { (n : ℕ) → allowance frame ≤ n
         → IfOk result (λ next. Does (nodes_of tree.now) n (call called.now receiver arguments (ending (nodes_of tree.now) frame)) state.old state.new next) }
+    ensures closed { IsClosed (nodes_of tree.now) state.old → ValueFits state.old.heap.cells receiver → ListOver (ValueFits state.old.heap.cells) arguments → OptionOver (AfterFits (nodes_of tree.now) state.old.heap.cells) frame → Lasts (nodes_of tree.now) state.old state.new result }
 {
     let callee = callee_of(state.alloc, &state.heap, called)?;
     call_as(state, tree, callee, receiver, arguments, frame)
@@ -226,6 +236,7 @@ pub fn call_last(
 ) -> Result<Next, StepFault>
     ensures some { IfOk result (λ next. Does (nodes_of tree.now) 4 (call called.now receiver arguments (λ v. give v)) state.old state.new next) }
     ensures many { IfOk result (λ next. Does (nodes_of tree.now) 6 (call called.now receiver arguments (λ v. give v)) state.old state.new next) }
+    ensures closed { IsClosed (nodes_of tree.now) state.old → ValueFits state.old.heap.cells receiver → ListOver (ValueFits state.old.heap.cells) arguments → Lasts (nodes_of tree.now) state.old state.new result }
 {
     call(state, tree, called, receiver, arguments, None)
 }
@@ -245,6 +256,7 @@ pub fn call_over(
 ) -> Result<Next, StepFault>
     ensures some { weight (Frame.After frame) ≤ 1 → IfOk result (λ next. Does (nodes_of tree.now) 4 (call called.now receiver arguments (λ v. after_rest (nodes_of tree.now) frame v)) state.old state.new next) }
     ensures many { IfOk result (λ next. Does (nodes_of tree.now) 6 (call called.now receiver arguments (λ v. after_rest (nodes_of tree.now) frame v)) state.old state.new next) }
+    ensures closed { IsClosed (nodes_of tree.now) state.old → ValueFits state.old.heap.cells receiver → ListOver (ValueFits state.old.heap.cells) arguments → AfterFits (nodes_of tree.now) state.old.heap.cells frame → Lasts (nodes_of tree.now) state.old state.new result }
 {
     call(state, tree, called, receiver, arguments, Some(frame))
 }

@@ -1,7 +1,9 @@
 //! Constructing objects with `new` (ECMA-262, 7.3.15: Construct; 10.2.2: closures; 20.5.1.1: errors).
-ghost use Rattle.std.specs.Prelude.{◌≡◌, ℕ, List, IfOk, Some, codes, slice_get};
+ghost use Rattle.std.specs.Prelude.{◌≡◌, ℕ, List, IfOk, MatchResult, Some, codes, slice_get, nat_eq};
 ghost use Rattle.std.specs.Option.{option_copied};
 ghost use Rattle.js_tree.specs.declared.node.Node as kind;
+ghost use Rattle.world_heap.specs.Heaps.{IsCell, IsNoEnv};
+ghost use Rattle.world_heap.specs.Over.{ListOver, OptionOver};
 ghost use Rattle.world_heap.specs.Table.{found_under};
 ghost use Rattle.js_names.specs.Patterns.{nodes_of};
 ghost use Rattle.js_semantics.specs.Natives.{is_error_function};
@@ -9,8 +11,10 @@ ghost use Rattle.js_semantics.specs.Objects.{construct, constructed, is_construc
 ghost use Rattle.js_semantics.specs.Properties.{object_of};
 ghost use Rattle.js_semantics.specs.Prog.{give};
 ghost use Rattle.js_semantics.specs.World.{World, built_in, cell_of, over};
+ghost use Rattle.js_machine.specs.Closed.{IsClosed, Lasts, ValueFits};
 ghost use Rattle.js_machine.specs.Does.{Does, world_of};
 ghost use Rattle.js_machine.specs.Frames.{after_rest};
+ghost use Rattle.js_calls.specs.Closed.{ConstructorFits};
 ghost use Rattle.js_calls.specs.Constructing.{closure_maker, construct_by, constructor_in, made_prototype, native_maker};
 
 use crate::calling::{Invocation, invoke};
@@ -46,7 +50,8 @@ fn prototype_of(heap: &Heap, default: &Option<Loc>, found: Option<&Property>) ->
 
 // The same of a function with this body.
 fn prototype_under(state: &State, body: &Body) -> Result<Option<Loc>, StepFault>
-    ensures { (nodes : List kind.Node) (supply : ℕ → ℕ) → IfOk result (λ proto. proto ≡ prototype_in (found_under body.now.properties (codes "prototype")) (world_of nodes supply state.now)) }
+    ensures is { (nodes : List kind.Node) (supply : ℕ → ℕ) → IfOk result (λ proto. proto ≡ prototype_in (found_under body.now.properties (codes "prototype")) (world_of nodes supply state.now)) }
+    ensures only { MatchResult result (λ proto. Unit {0}) (λ fault. fault ≡ StepFault.Memory) }
 {
     let key = short_text(state.alloc, "prototype")?;
     let default = state.built_in(BuiltIn::ObjectPrototype);
@@ -56,7 +61,8 @@ fn prototype_under(state: &State, body: &Body) -> Result<Option<Loc>, StepFault>
 // The same of what a value is.
 #[tactic(auto, unfolding(crate::specs::Constructing::made_prototype))]
 fn made_prototype(state: &State, callee: &Value) -> Result<Option<Loc>, StepFault>
-    ensures { (nodes : List kind.Node) (supply : ℕ → ℕ) → IfOk result (λ proto. proto ≡ made_prototype (cell_of callee.now (world_of nodes supply state.now)) (world_of nodes supply state.now)) }
+    ensures is { (nodes : List kind.Node) (supply : ℕ → ℕ) → IfOk result (λ proto. proto ≡ made_prototype (cell_of callee.now (world_of nodes supply state.now)) (world_of nodes supply state.now)) }
+    ensures only { MatchResult result (λ proto. Unit {0}) (λ fault. fault ≡ StepFault.Memory) }
 {
     match callee {
         Value::Ref(loc) => match state.heap.get(*loc) {
@@ -105,7 +111,8 @@ fn constructor_in(tree: &Tree, cell: &Cell) -> Constructor
 // What a value makes with `new`.
 #[tactic(auto, unfolding(crate::specs::Constructing::constructor_in))]
 fn constructor_of(heap: &Heap, tree: &Tree, callee: &Value) -> Constructor
-    ensures { (w : World ℕ) → result ≡ constructor_in (nodes_of tree.now) (cell_of callee.now (over heap.now w)) }
+    ensures is { (w : World ℕ) → result ≡ constructor_in (nodes_of tree.now) (cell_of callee.now (over heap.now w)) }
+    ensures closed { ConstructorFits heap.now.cells result }
 {
     match callee {
         Value::Ref(loc) => match heap.get(*loc) {
@@ -125,7 +132,8 @@ fn construct_on(
     proto: Option<Loc>,
     arguments: Items<Value>,
 ) -> Result<Next, StepFault>
-    ensures { IfOk result (λ next. Does (nodes_of tree.now) 4 (construct_by (Constructor.Closure node env) proto arguments (λ v. give v)) state.old state.new next) }
+    ensures does { IfOk result (λ next. Does (nodes_of tree.now) 4 (construct_by (Constructor.Closure node env) proto arguments (λ v. give v)) state.old state.new next) }
+    ensures closed { IsClosed (nodes_of tree.now) state.old → IsCell nat_eq state.old.heap.cells env → OptionOver (IsNoEnv nat_eq state.old.heap.cells) proto → ListOver (ValueFits state.old.heap.cells) arguments → Lasts (nodes_of tree.now) state.old state.new result }
 {
     match state.make_object(proto)? {
         Ok(object) => {
@@ -156,7 +164,8 @@ fn construct_any(
     callee: &Value,
     arguments: Items<Value>,
 ) -> Result<Next, StepFault>
-    ensures { IfOk result (λ next. Does (nodes_of tree.now) 4 (construct callee.now arguments (λ v. give v)) state.old state.new next) }
+    ensures does { IfOk result (λ next. Does (nodes_of tree.now) 4 (construct callee.now arguments (λ v. give v)) state.old state.new next) }
+    ensures closed { IsClosed (nodes_of tree.now) state.old → ListOver (ValueFits state.old.heap.cells) arguments → Lasts (nodes_of tree.now) state.old state.new result }
 {
     match constructor_of(&state.heap, tree, callee) {
         Constructor::Closure { node, env } => {
@@ -186,6 +195,7 @@ pub fn construct(
 ) -> Result<Next, StepFault>
     ensures some { IfOk result (λ next. Does (nodes_of tree.now) 4 (construct callee.now arguments (λ v. give v)) state.old state.new next) }
     ensures many { IfOk result (λ next. Does (nodes_of tree.now) 6 (construct callee.now arguments (λ v. give v)) state.old state.new next) }
+    ensures closed { IsClosed (nodes_of tree.now) state.old → ListOver (ValueFits state.old.heap.cells) arguments → Lasts (nodes_of tree.now) state.old state.new result }
 {
     construct_any(state, tree, callee, arguments)
 }
@@ -203,7 +213,8 @@ fn constructed(heap: &Heap, object: Loc, value: &Value) -> Value
 /// The function that `new` called on a new object has returned a value (ECMA-262, 10.2.2): an object takes the place of
 /// the new one, and any other value is let go. It is never a fault.
 pub fn after_constructed(state: &mut State, object: Loc, value: Value) -> Result<Next, StepFault>
-    ensures { (nodes : List kind.Node) → IfOk result (λ next. Does nodes 2 (after_rest nodes (AfterFrame.Constructed object) value) state.old state.new next) }
+    ensures does { (nodes : List kind.Node) → IfOk result (λ next. Does nodes 2 (after_rest nodes (AfterFrame.Constructed object) value) state.old state.new next) }
+    ensures closed { (nodes : List kind.Node) → IsClosed nodes state.old → IsNoEnv nat_eq state.old.heap.cells object → ValueFits state.old.heap.cells value → Lasts nodes state.old state.new result }
 {
     let made = constructed(&state.heap, object, &value);
     discard(value);

@@ -1,15 +1,19 @@
 //! Reading a name: of a binding, or of the global object (ECMA-262, 9.1.1.1.6 and 9.4.2).
-ghost use Rattle.std.specs.Prelude.{◌≡◌, ℕ, List, IfOk};
+ghost use Rattle.std.specs.Prelude.{◌≡◌, ℕ, List, IfOk, MatchResult};
+ghost use Rattle.world_heap.specs.declared.cell.Cell as kept;
+ghost use Rattle.world_heap.specs.Over.{OptionOver};
 ghost use Rattle.js_tree.specs.declared.node.Node as kind;
 ghost use Rattle.js_names.specs.Patterns.{nodes_of};
 ghost use Rattle.js_semantics.specs.Prog.{throw};
 ghost use Rattle.js_semantics.specs.Access.{global_holder, read_name};
 ghost use Rattle.js_semantics.specs.Environments.{binding_of};
+ghost use Rattle.js_machine.specs.Closed.{IsClosed, ValueFits};
 ghost use Rattle.js_machine.specs.Does.{Does, world_of};
 ghost use Rattle.js_machine.specs.Frames.{after_rest};
+ghost use Rattle.js_calls.specs.Closed.{NamedFits};
 ghost use Rattle.js_calls.specs.Naming.{named, read_by, value_named};
 
-use crate::property::get;
+use crate::property::{get, hand};
 use js_machine::{AfterFrame, Next, State, discard, is_cell};
 use js_names::binding_of;
 use js_semantics::{Fault, StepFault};
@@ -32,7 +36,8 @@ pub enum Named<L = Loc> {
 // What a binding holds.
 #[tactic(auto, unfolding(crate::specs::Naming::value_named))]
 fn held(alloc: Global, binding: &Binding) -> Result<Named, StepFault>
-    ensures { IfOk result (λ is. is ≡ value_named binding.now.value) }
+    ensures is { IfOk result (λ is. is ≡ value_named binding.now.value) }
+    ensures closed { (cells : List (ℕ × kept.Cell ℕ)) → OptionOver (ValueFits cells) binding.now.value → MatchResult result (λ is. NamedFits cells is) (λ fault. fault ≡ StepFault.Memory) }
 {
     match &binding.value {
         Some(value) => Ok(Named::Held(value.copy(alloc)?)),
@@ -45,7 +50,8 @@ fn held(alloc: Global, binding: &Binding) -> Result<Named, StepFault>
 /// # Errors
 /// `Dangling` where the global object stands nowhere.
 pub fn global_holder(state: &State, name: &Units) -> Result<Option<Value>, StepFault>
-    ensures { (nodes : List kind.Node) (supply : ℕ → ℕ) → IfOk result (λ holder. holder ≡ global_holder name.now (world_of nodes supply state.now)) }
+    ensures is { (nodes : List kind.Node) (supply : ℕ → ℕ) → IfOk result (λ holder. holder ≡ global_holder name.now (world_of nodes supply state.now)) }
+    ensures closed { (nodes : List kind.Node) → IsClosed nodes state.now → MatchResult result (λ holder. OptionOver (ValueFits state.now.heap.cells) holder) (λ fault. fault ≡ StepFault.Memory) }
 {
     match state.built_in(BuiltIn::Global) {
         Some(global) => {
@@ -67,7 +73,8 @@ pub fn global_holder(state: &State, name: &Units) -> Result<Option<Value>, StepF
 /// # Errors
 /// `Memory` where there is none; `Dangling` where the global object stands nowhere.
 pub fn meaning_of(state: &State, env: Loc, name: &Units) -> Result<Named, StepFault>
-    ensures { (nodes : List kind.Node) (supply : ℕ → ℕ) → IfOk result (λ is. is ≡ named (binding_of env name.now (world_of nodes supply state.now)) (global_holder name.now (world_of nodes supply state.now))) }
+    ensures is { (nodes : List kind.Node) (supply : ℕ → ℕ) → IfOk result (λ is. is ≡ named (binding_of env name.now (world_of nodes supply state.now)) (global_holder name.now (world_of nodes supply state.now))) }
+    ensures closed { (nodes : List kind.Node) → IsClosed nodes state.now → MatchResult result (λ is. NamedFits state.now.heap.cells is) (λ fault. fault ≡ StepFault.Memory) }
 {
     match binding_of(&state.heap, env, name) {
         Some((_, binding)) => held(state.alloc, binding),
@@ -90,7 +97,7 @@ fn read(
     ensures { IfOk result (λ next. Does (nodes_of tree.now) 6 (read_by meant name.now (throw Fault.NotDefined) (λ v. after_rest (nodes_of tree.now) frame v)) state.old state.new next) }
 {
     match meant {
-        Named::Held(value) => state.hand(frame, value),
+        Named::Held(value) => hand(state, frame, value),
         Named::Unready => {
             discard(frame);
             state.throw(Fault::NotReady)

@@ -7,13 +7,15 @@ ghost use Rattle.proto_props.specs.Gets.{gets, text_unit};
 ghost use Rattle.js_names.specs.Patterns.{nodes_of};
 ghost use Rattle.js_semantics.specs.Access.{get, take_up};
 ghost use Rattle.js_semantics.specs.Properties.{made_of};
+ghost use Rattle.js_machine.specs.Closed.{AfterFits, IsClosed, Lasts, ValueFits};
 ghost use Rattle.js_machine.specs.Does.{Does};
 ghost use Rattle.js_machine.specs.Frames.{after_rest};
+ghost use Rattle.js_calls.specs.Closed.{GotFits};
 ghost use Rattle.js_calls.specs.Reading.{made_value};
 
 use crate::calling::call_over;
-use js_machine::{AfterFrame, Next, State, discard, is_cell, stopped};
-use js_semantics::{Fault, StepFault};
+use js_machine::{AfterFrame, Control, Frame, Next, State, discard, is_cell, stopped};
+use js_semantics::{Fault, Outcome, StepFault};
 use js_tree::Tree;
 use proto_props::{Got, get_step};
 use sqlite_items::Items;
@@ -24,7 +26,8 @@ use world_log::Stop;
 
 // Whether a value's location stands, and its number is one of a script.
 fn stands(heap: &Heap, value: &Value) -> bool
-    ensures { result ≡ true → ValueOver (IsCell nat_eq heap.now.cells) value.now }
+    ensures fits { result ≡ true → ValueOver (IsCell nat_eq heap.now.cells) value.now }
+    ensures only { ValueOver (IsCell nat_eq heap.now.cells) value.now → result ≡ true }
 {
     match value {
         Value::Ref(loc) => is_cell(heap, *loc),
@@ -68,6 +71,16 @@ fn makes_unit(of: &Value, key: &Units) -> bool
     }
 }
 
+// What follows a reading is done with the value.
+pub(crate) fn hand(state: &mut State, frame: AfterFrame, value: Value) -> Result<Next, StepFault>
+    ensures does { (nodes : List kind.Node) → IfOk result (λ next. Does nodes 6 (after_rest nodes frame value) state.old state.new next) }
+    ensures closed { (nodes : List kind.Node) → IsClosed nodes state.old → AfterFits nodes state.old.heap.cells frame → ValueFits state.old.heap.cells value → Lasts nodes state.old state.new result }
+{
+    state.push(Some(Frame::After(frame)))?;
+    state.turn_to(Control::Give(Outcome::Normal(value)));
+    Ok(Next::Go)
+}
+
 // Goes on with a value, which counts a unit where it was made.
 fn give_made(
     state: &mut State,
@@ -75,7 +88,8 @@ fn give_made(
     value: Value,
     frame: AfterFrame,
 ) -> Result<Next, StepFault>
-    ensures { (nodes : List kind.Node) → IfOk result (λ next. Does nodes 6 (made_value made value (λ v. after_rest nodes frame v)) state.old state.new next) }
+    ensures does { (nodes : List kind.Node) → IfOk result (λ next. Does nodes 6 (made_value made value (λ v. after_rest nodes frame v)) state.old state.new next) }
+    ensures closed { (nodes : List kind.Node) → IsClosed nodes state.old → ValueFits state.old.heap.cells value → AfterFits nodes state.old.heap.cells frame → Lasts nodes state.old state.new result }
 {
     if made {
         if !state.count_units(1) {
@@ -83,9 +97,9 @@ fn give_made(
             discard(value);
             return Ok(stopped(Stop::Units));
         }
-        return state.hand(frame, value);
+        return hand(state, frame, value);
     }
-    state.hand(frame, value)
+    hand(state, frame, value)
 }
 
 // Goes on with what reading a property gives.
@@ -97,8 +111,10 @@ fn take_up(
     key: &Units,
     frame: AfterFrame,
 ) -> Result<Next, StepFault>
-    ensures { got ≡ gets nat_eq state.old.heap.cells of key.now
+    ensures does { got ≡ gets nat_eq state.old.heap.cells of key.now
         → IfOk result (λ next. Does (nodes_of tree.now) 6 (take_up got of key.now (λ v. after_rest (nodes_of tree.now) frame v)) state.old state.new next) }
+    ensures closed { IsClosed (nodes_of tree.now) state.old → GotFits state.old.heap.cells got → ValueFits state.old.heap.cells of → AfterFits (nodes_of tree.now) state.old.heap.cells frame
+        → Lasts (nodes_of tree.now) state.old state.new result }
 {
     match got {
         Got::Value(value) => {
@@ -112,7 +128,7 @@ fn take_up(
         }
         Got::Absent => {
             discard(of);
-            state.hand(frame, Value::Undefined)
+            hand(state, frame, Value::Undefined)
         }
         Got::Refused => {
             discard(of);

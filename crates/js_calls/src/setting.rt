@@ -1,5 +1,6 @@
 //! Writing a property of a value, with the setter that it may call (ECMA-262, 7.3.4: Set; 10.1.9).
-ghost use Rattle.std.specs.Prelude.{◌≡◌, false, List, IfOk, IfSome, Some, nat_eq};
+ghost use Rattle.std.specs.Prelude.{◌≡◌, false, List, IfOk, MatchOption, None, Some, nat_eq};
+ghost use Rattle.world_heap.specs.Heaps.{IsNoEnv};
 ghost use Rattle.world_heap.specs.Maps.{find};
 ghost use Rattle.proto_props.specs.Sets.{sets};
 ghost use Rattle.js_names.specs.Patterns.{nodes_of};
@@ -7,6 +8,7 @@ ghost use Rattle.js_tree.specs.declared.node.Node as kind;
 ghost use Rattle.js_semantics.specs.Prog.{give, throw};
 ghost use Rattle.js_semantics.specs.Access.{set};
 ghost use Rattle.js_semantics.specs.Properties.{is_symbol};
+ghost use Rattle.js_machine.specs.Closed.{IsClosed, Lasts, ValueFits};
 ghost use Rattle.js_machine.specs.Does.{Does};
 ghost use Rattle.js_calls.specs.Writing.{Written, fault_for, set_next};
 
@@ -36,7 +38,7 @@ fn fault_for(refusal: Refusal) -> Fault
 
 // Whether a symbol stands at a location, where a cell does.
 fn symbol_at(heap: &Heap, loc: Loc) -> Option<bool>
-    ensures { IfSome result (λ symbol. symbol ≡ is_symbol (find nat_eq heap.now.cells loc)) }
+    ensures { MatchOption result (find nat_eq heap.now.cells loc ≡ None) (λ symbol. symbol ≡ is_symbol (find nat_eq heap.now.cells loc)) }
 {
     match heap.get(loc) {
         Some(cell) => Some(is_symbol(cell)),
@@ -51,13 +53,15 @@ fn write(
     key: Units,
     value: Value,
 ) -> Result<Result<SetDone, Stop>, StepFault>
-    ensures { IfOk result (λ got. Written (sets nat_eq state.old.heap.cells loc key value) state.old state.new got) }
+    ensures does { IfOk result (λ got. Written (sets nat_eq state.old.heap.cells loc key value) state.old state.new got) }
+    ensures closed { (nodes : List kind.Node) → IsClosed nodes state.old → IsNoEnv nat_eq state.old.heap.cells loc → ValueFits state.old.heap.cells value → Lasts nodes state.old state.new result }
 {
     if !is_cell(&state.heap, loc) || !is_fit(&state.heap, &value) {
         discard(key);
         discard(value);
         return Err(StepFault::Dangling);
     }
+    state.heap.count();
     match set_step(state.alloc, &mut state.heap, loc, key, value) {
         Ok(done) => Ok(Ok(done)),
         Err(HeapFault::Places) => {
@@ -81,7 +85,8 @@ fn settle(
     value: Value,
     result_value: Value,
 ) -> Result<Next, StepFault>
-    ensures { IfOk result (λ next. Does (nodes_of tree.now) 4 (set_next done (Value.Ref loc) value (give result_value)) state.old state.new next) }
+    ensures does { IfOk result (λ next. Does (nodes_of tree.now) 4 (set_next done (Value.Ref loc) value (give result_value)) state.old state.new next) }
+    ensures closed { IsClosed (nodes_of tree.now) state.old → IsNoEnv nat_eq state.old.heap.cells loc → ValueFits state.old.heap.cells value → ValueFits state.old.heap.cells result_value → Lasts (nodes_of tree.now) state.old state.new result }
 {
     match done {
         SetDone::Done => {
@@ -120,8 +125,9 @@ fn set_own(
     value: Value,
     result_value: Value,
 ) -> Result<Next, StepFault>
-    ensures { is_symbol (find nat_eq state.old.heap.cells loc) ≡ false
+    ensures does { is_symbol (find nat_eq state.old.heap.cells loc) ≡ false
         → IfOk result (λ next. Does (nodes_of tree.now) 4 (set (Value.Ref loc) key value (give result_value)) state.old state.new next) }
+    ensures closed { IsClosed (nodes_of tree.now) state.old → IsNoEnv nat_eq state.old.heap.cells loc → ValueFits state.old.heap.cells value → ValueFits state.old.heap.cells result_value → Lasts (nodes_of tree.now) state.old state.new result }
 {
     let argument = value.copy(state.alloc)?;
     match write(state, loc, key, value)? {
@@ -143,7 +149,8 @@ fn set_at(
     value: Value,
     result_value: Value,
 ) -> Result<Next, StepFault>
-    ensures { IfOk result (λ next. Does (nodes_of tree.now) 4 (set (Value.Ref loc) key value (give result_value)) state.old state.new next) }
+    ensures does { IfOk result (λ next. Does (nodes_of tree.now) 4 (set (Value.Ref loc) key value (give result_value)) state.old state.new next) }
+    ensures closed { IsClosed (nodes_of tree.now) state.old → IsNoEnv nat_eq state.old.heap.cells loc → ValueFits state.old.heap.cells value → ValueFits state.old.heap.cells result_value → Lasts (nodes_of tree.now) state.old state.new result }
 {
     match symbol_at(&state.heap, loc) {
         Some(symbol) => {
@@ -170,7 +177,8 @@ fn refuse(
     value: Value,
     result_value: Value,
 ) -> Result<Next, StepFault>
-    ensures { (nodes : List kind.Node) → IfOk result (λ next. Does nodes 4 (throw fault) state.old state.new next) }
+    ensures does { (nodes : List kind.Node) → IfOk result (λ next. Does nodes 4 (throw fault) state.old state.new next) }
+    ensures closed { (nodes : List kind.Node) → IsClosed nodes state.old → Lasts nodes state.old state.new result }
 {
     discard(key);
     discard(value);
@@ -193,7 +201,8 @@ pub fn set(
     value: Value,
     result_value: Value,
 ) -> Result<Next, StepFault>
-    ensures { IfOk result (λ next. Does (nodes_of tree.now) 4 (set of key value (give result_value)) state.old state.new next) }
+    ensures does { IfOk result (λ next. Does (nodes_of tree.now) 4 (set of key value (give result_value)) state.old state.new next) }
+    ensures closed { IsClosed (nodes_of tree.now) state.old → ValueFits state.old.heap.cells of → ValueFits state.old.heap.cells value → ValueFits state.old.heap.cells result_value → Lasts (nodes_of tree.now) state.old state.new result }
 {
     match of {
         Value::Undefined => refuse(state, Fault::NotAnObject, key, value, result_value),

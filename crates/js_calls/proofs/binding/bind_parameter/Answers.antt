@@ -5,3 +5,6 @@ returns-clause-few c nodes = rw c.in_ok-inner.ensures at (c.bind_part.ensures.fe
 
 pub returns-clause-many : goal.returns-clause-many
 returns-clause-many c nodes = rw c.in_ok-inner.ensures at (c.bind_part.ensures.many nodes)
+
+pub returns-clause-closed : goal.returns-clause-closed
+returns-clause-closed c nodes closed value arguments scope = c.bind_part.ensures.closed nodes closed (arguments, scope) value (rw c.in_ok-inner.ensures scope)
