@@ -1,14 +1,16 @@
 -- Turns, one after another.
-use Rattle.std.proofs.Common.{◌≡◌, ℕ, List, [], ◌∷◌, ◌++◌, false, append_assoc, append-nil, refl, sym, ap, ◌∙◌}
+use Rattle.std.proofs.Common.{◌≡◌, ℕ, List, [], ◌∷◌, ◌++◌, ◌≤◌, false, Option, Some, None, Result, Ok, Err, IfOk, append_assoc, append-nil, refl, sym, ap, ◌∙◌, arith}
 use Rattle.js_tree.specs.declared.node.Node.{Node}
 use Rattle.world_heap.specs.Views.{HeapView}
 use Rattle.world_log.specs.declared.entry.Entry.TheVariants as entry
 use Rattle.world_log.specs.declared.entry.Product.{Product}
+use Rattle.js_semantics.specs.declared.fault.StepFault.{StepFault}
 use Rattle.js_semantics.specs.Run.{Arrival, Then, Trace}
 use Rattle.js_machine.specs.declared.state.State.{State}
 use Rattle.js_machine.specs.declared.state.Next.{Next}
-use Rattle.js_machine.specs.Does.{Receives, Stays, Steps, after, is_running, made}
-use Rattle.js_step.specs.Resuming.{Makes, MakesBehind, Resumes, ResumesBehind}
+use Rattle.js_machine.specs.declared.state.Next.TheVariants.{Go, Made}
+use Rattle.js_machine.specs.Does.{Receives, Stays, Steps, after, is_running, made, work}
+use Rattle.js_step.specs.Resuming.{Begins, BeginsWith, Makes, MakesBehind, MakesNext, Resumes, ResumesBehind}
 
 stays_on : (a b c : HeapView) → Stays a b → Stays b c → Stays a c
 stays_on a b c h g = g ∙ ap (λ (v : HeapView). record v { cells = c.cells; counts = c.counts }) h
@@ -32,17 +34,39 @@ makes_more nodes old mid new products next before turn = record {
   stays = stays_on old.heap mid.heap new.heap before.stays turn.stays;
 }
 
--- a delivery, and the turns up to the end
-pub resumed : (nodes : List Node) (d : Arrival) (old mid new : State) (next : Next) (products : List Product) → Receives nodes d old mid next → Makes nodes mid products new → is_running new.control ≡ false → Resumes nodes d old (made next ++ products) new
-resumed nodes d old mid new next products start turns ends = record {
+-- the next product, behind turns that made none
+pub next_made : (nodes : List Node) (old mid new : State) (product : Product) → Makes nodes old [] mid → work mid ≤ work old → Steps nodes mid new (Made product) → MakesNext nodes old (Some product) new
+next_made nodes old mid new product before less turn = (makes_more nodes old mid new [] (Made product) before turn, omega (arith, less, turn.falls))
+
+-- a delivery, and turns behind it
+pub begun : (nodes : List Node) (d : Arrival) (old mid new : State) (next : Next) (products : List Product) → Receives nodes d old mid next → Makes nodes mid products new → Begins nodes d old (made next ++ products) new
+begun nodes d old mid new next products start turns = record {
   law = λ supply ds follows.
       start.law supply ds (turns.keeps supply follows)
       ∙ ap (λ t. Then (entry.Delivery d.fresh d.what) (after (made next) t)) (turns.law supply ds follows)
       ∙ ap (λ t. Then (entry.Delivery d.fresh d.what) t) (after_twice (made next) products _);
-  ends = ends;
   keeps = λ supply f. start.keeps supply (turns.keeps supply f);
   stays = stays_on old.heap mid.heap new.heap start.stays turns.stays;
 }
+
+-- a delivery that makes the first product at once
+pub begun_made : (nodes : List Node) (d : Arrival) (old new : State) (product : Product) → Receives nodes d old new (Made product) → BeginsWith nodes d old (Some product) new
+begun_made nodes d old new product start = begun nodes d old new new (Made product) [] start (makes_none nodes new)
+
+-- a delivery, and turns up to the first product
+begun_with : (nodes : List Node) (d : Arrival) (old mid new : State) (first : Option Product) → Receives nodes d old mid Go → MakesNext nodes mid first new → BeginsWith nodes d old first new
+begun_with nodes d old mid new (Some product) start turns = begun nodes d old mid new Go (product ∷ []) start turns.0
+begun_with nodes d old mid new None start turns = (begun nodes d old mid new Go [] start turns.0, turns.1)
+
+pub begun_ok : (nodes : List Node) (d : Arrival) (old mid new : State) (r : Result (Option Product) StepFault) → Receives nodes d old mid Go → IfOk r (λ first. MakesNext nodes mid first new) → IfOk r (λ first. BeginsWith nodes d old first new)
+begun_ok nodes d old mid new (Ok first) start turns = begun_with nodes d old mid new first start turns
+begun_ok nodes d old mid new (Err fault) start turns = turns
+
+-- a delivery, and the turns up to the end
+pub resumed : (nodes : List Node) (d : Arrival) (old mid new : State) (next : Next) (products : List Product) → Receives nodes d old mid next → Makes nodes mid products new → is_running new.control ≡ false → Resumes nodes d old (made next ++ products) new
+resumed nodes d old mid new next products start turns ends =
+    let all = begun nodes d old mid new next products start turns in
+    record { law = all.law; ends = ends; keeps = all.keeps; stays = all.stays }
 
 -- the same in a list
 pub begins : (nodes : List Node) (s : State) (now : List Product) → MakesBehind nodes s now now s

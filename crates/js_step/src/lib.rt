@@ -10,5 +10,5 @@ mod resuming;
 mod stepping;
 mod values;
 
-pub use resuming::resume;
+pub use resuming::{advance, begin, resume};
 pub use stepping::step;

@@ -1,8 +1,8 @@
 //! What a delivery comes to, up to the next wait.
-ghost use Rattle.std.specs.Prelude.{◌≡◌, ◌++◌, true, OnOk};
+ghost use Rattle.std.specs.Prelude.{◌≡◌, ◌++◌, true, IfOk, OnOk};
 ghost use Rattle.js_names.specs.Patterns.{nodes_of};
 ghost use Rattle.js_machine.specs.Does.{does_await, made};
-ghost use Rattle.js_step.specs.Resuming.{ResumesBehind};
+ghost use Rattle.js_step.specs.Resuming.{BeginsWith, MakesNext, ResumesBehind};
 
 use crate::stepping::step;
 use js_machine::{Next, State};
@@ -20,6 +20,47 @@ fn put(out: &mut Vec<Product>, next: Next) -> Result<(), StepFault>
             out.push(product)?;
             Ok(())
         }
+    }
+}
+
+/// Makes turns up to the next product, or up to where the machine waits for a delivery or has stopped (ECMA-262, 9.4).
+/// Where a product is made less work is left than before. The cost is that of the turns.
+///
+/// # Errors
+/// `Memory` where there is none; `Dangling` where a location was met that stands nowhere. The state is then that of no
+/// world any more.
+pub fn advance(state: &mut State, tree: &Tree) -> Result<Option<Product>, StepFault>
+    ensures { IfOk result (λ made. MakesNext (nodes_of tree.now) state.old made state.new) }
+{
+    'silent: while state.is_running() {
+        match step(state, tree)? {
+            Next::Go => {}
+            Next::Made(product) => return Ok(Some(product)),
+        }
+    }
+    Ok(None)
+}
+
+/// Takes a delivery, `fresh` where it is the first in its task, and makes turns up to the first product, or up to where
+/// the machine waits for the next delivery or has stopped (ECMA-262, 16.1.6 and 9.5). The cost is that of the turns.
+///
+/// Condition: the delivery may come.
+///
+/// # Errors
+/// `Memory` where there is none; `Dangling` where a location was met that stands nowhere. The state is then that of no
+/// world any more.
+pub fn begin(
+    state: &mut State,
+    tree: &Tree,
+    fresh: bool,
+    delivery: Delivery,
+) -> Result<Option<Product>, StepFault>
+    requires { does_await state.old delivery ≡ true }
+    ensures { IfOk result (λ made. BeginsWith (nodes_of tree.now) (record { fresh = fresh; what = delivery }) state.old made state.new) }
+{
+    match state.receive(tree, fresh, delivery)? {
+        Next::Go => advance(state, tree),
+        Next::Made(product) => Ok(Some(product)),
     }
 }
 
