@@ -12,4 +12,4 @@ returns-then-not-count_units c nodes =
 pub returns : goal.returns
 returns c nodes =
     let h : CountsUnits c.len-units.result c.args.state.now c.count_units.new.self true = rw c.if-not-count_units.false at c.count_units.ensures in
-    text_comes nodes c.args.text c.len-units.result (λ v p. push_item c.args.array v p) c.args.state.now c.count_units.new.self c.push.new.state c.push.result c.len-units.ensures.value c.len-units.ensures.limit h (c.push.ensures nodes)
+    text_comes nodes c.args.text c.len-units.result (λ v p. push_item c.args.array v p) c.args.state.now c.count_units.new.self c.push.new.state c.push.result c.len-units.ensures.value c.len-units.ensures.limit h (c.push.ensures.does nodes)

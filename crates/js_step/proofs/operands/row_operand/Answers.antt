@@ -13,11 +13,11 @@ returns-in-Template c = rw c.in-Template.is (rw (c.requires.stands, c.in-Templat
 
 pub returns-in-ArrayLit : goal.returns-in-ArrayLit
 unfolding row_of items_of
-returns-in-ArrayLit c = rw c.in-ArrayLit.is (rw (c.requires.stands, c.in-ArrayLit.is) at c.row_array.ensures)
+returns-in-ArrayLit c = rw c.in-ArrayLit.is (rw (c.requires.stands, c.in-ArrayLit.is) at c.row_array.ensures.does)
 
 pub returns-in-ObjectLit : goal.returns-in-ObjectLit
 unfolding row_of items_of
-returns-in-ObjectLit c = rw c.in-ObjectLit.is (rw (c.requires.stands, c.in-ObjectLit.is) at c.row_object.ensures)
+returns-in-ObjectLit c = rw c.in-ObjectLit.is (rw (c.requires.stands, c.in-ObjectLit.is) at c.row_object.ensures.does)
 
 pub returns-in-Dot : goal.returns-in-Dot
 unfolding row_of name_of

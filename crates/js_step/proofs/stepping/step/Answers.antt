@@ -15,7 +15,7 @@ pub returns-in-Bind : goal.returns-in-Bind
 returns-in-Bind c = bind_next (nodes_of c.args.tree.now) c.args.state.now _ _ c.in-Bind.node c.in-Bind.value c.in-Bind.scope _ (sym c.replace-control.ensures.value ∙ c.in-Bind.is) refl c.bind_pattern.ensures.row
 
 pub returns-in-Member : goal.returns-in-Member
-returns-in-Member c = member_next (nodes_of c.args.tree.now) c.args.state.now _ _ c.in-Member.node c.in-Member.object c.in-Member.scope _ (sym c.replace-control.ensures.value ∙ c.in-Member.is) refl c.row_member.ensures
+returns-in-Member c = member_next (nodes_of c.args.tree.now) c.args.state.now _ _ c.in-Member.node c.in-Member.object c.in-Member.scope _ (sym c.replace-control.ensures.value ∙ c.in-Member.is) refl c.row_member.ensures.does
 
 pub returns-in-Native : goal.returns-in-Native
 returns-in-Native c = native_next (nodes_of c.args.tree.now) c.args.state.now _ _ c.in-Native.id c.in-Native.receiver c.in-Native.arguments _ (sym c.replace-control.ensures.value ∙ c.in-Native.is) refl (rw c.as_slice.ensures at (c.native.ensures (nodes_of c.args.tree.now)))
