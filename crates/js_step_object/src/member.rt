@@ -20,7 +20,8 @@ ghost use Rattle.js_step_object.specs.Members.{computed_by, getter_of, member_in
 use crate::defining::define;
 use crate::functions::{closure_of, plain_object};
 use js_machine::{
-    Frame, LiteralFrame, Next, State, ValueFrame, copy_scope, discard, items_of, next_of, node_at,
+    Frame, LiteralFrame, Next, State, ValueFrame, copy_scope, discard, done, items_of, next_of,
+    node_at,
 };
 use js_operators::{key_of, short_text};
 use js_semantics::{Fault, Outcome, Scope, StepFault};
@@ -101,14 +102,6 @@ pub fn row_object(
     }
 }
 
-// Ends the row of a member, which has no value.
-fn end_member(state: &mut State) -> Result<Next, StepFault>
-    ensures does { (nodes : List kind.Node) → IfOk result (λ next. Does nodes 6 done state.old state.new next) }
-    ensures closed { (nodes : List kind.Node) → IsClosed nodes state.old → Lasts nodes state.old state.new result }
-{
-    state.give(Outcome::Normal(Value::Undefined))
-}
-
 // Defines a plain property, and ends the row of the member.
 fn define_value(state: &mut State, object: Loc, key: Units, value: Value) -> Result<Next, StepFault>
     ensures does { (nodes : List kind.Node) → IfOk result (λ next. Does nodes 6 (define object key (λ old. plain value) done) state.old state.new next) }
@@ -121,7 +114,7 @@ fn define_value(state: &mut State, object: Loc, key: Units, value: Value) -> Res
         configurable: true,
     };
     match define(state, object, key, property)? {
-        None => end_member(state),
+        None => done(state),
         Some(next) => Ok(next),
     }
 }
@@ -306,7 +299,7 @@ fn define_function(
     };
     let property = property_of(&state.heap, object, &key, part, function);
     match define(state, object, key, property)? {
-        None => end_member(state),
+        None => done(state),
         Some(next) => Ok(next),
     }
 }
@@ -360,7 +353,7 @@ fn define_member(
         Member::Nothing => {
             discard(key);
             discard(scope);
-            end_member(state)
+            done(state)
         }
     }
 }
@@ -435,7 +428,7 @@ pub fn row_member(
         Some(None) => define_member(state, tree, node, object, scope, None),
         None => {
             discard(scope);
-            end_member(state)
+            done(state)
         }
     }
 }

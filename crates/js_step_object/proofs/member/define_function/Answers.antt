@@ -18,8 +18,8 @@ returns-in-Err-clause-does c nodes =
 
 pub returns-in-None-clause-does : goal.returns-in-None-clause-does
 returns-in-None-clause-does c nodes =
-    then_ok nodes (λ k. make_closure c.args.node c.args.env None k) (λ f. define c.args.object c.args.key (λ old. member_property c.args.part f old) done) c.args.state.now c.closure_of.new.state c.end_member.new.state _ c.in-Ok.function c.end_member.result (c.in_ok-function.ensures.does nodes) c.in-Ok.is
-    (comes_ok nodes (λ p. define c.args.object c.args.key (λ old. member_property c.args.part c.in-Ok.function old) p) done c.closure_of.new.state c.define.new.state c.end_member.new.state _ c.end_member.result (c.in_ok-define.ensures.does nodes (λ old. member_property c.args.part c.in-Ok.function old) (sym c.property_of-property.ensures)) c.in-None.is (c.end_member.ensures.does nodes))
+    then_ok nodes (λ k. make_closure c.args.node c.args.env None k) (λ f. define c.args.object c.args.key (λ old. member_property c.args.part f old) done) c.args.state.now c.closure_of.new.state c.done.new.state _ c.in-Ok.function c.done.result (c.in_ok-function.ensures.does nodes) c.in-Ok.is
+    (comes_ok nodes (λ p. define c.args.object c.args.key (λ old. member_property c.args.part c.in-Ok.function old) p) done c.closure_of.new.state c.define.new.state c.done.new.state _ c.done.result (c.in_ok-define.ensures.does nodes (λ old. member_property c.args.part c.in-Ok.function old) (sym c.property_of-property.ensures)) c.in-None.is (c.done.ensures.does nodes))
 
 pub returns-in-Some-clause-does : goal.returns-in-Some-clause-does
 returns-in-Some-clause-does c nodes =
@@ -49,8 +49,8 @@ returns-in-None-clause-closed c nodes closed env =
     let plain = rw c.in-Ok.is at (c.in_ok-function.ensures.fits nodes closed) in
     let fit : PropertyOver (IsNoEnv nat_eq cells) c.property_of-property.result = rw c.property_of-property.ensures (member_fits (IsNoEnv nat_eq cells) c.args.part c.in-Ok.function (standing cells c.args.object c.args.key) plain (standing_fits cells c.args.object c.args.key went.closed.well)) in
     let on = c.in_ok-define.ensures.closed nodes went.closed fit in
-    lasts_on nodes c.args.state.now c.closure_of.new.state c.end_member.new.state c.end_member.result went
-    (lasts_on nodes c.closure_of.new.state c.define.new.state c.end_member.new.state c.end_member.result on (c.end_member.ensures.closed nodes on.closed))
+    lasts_on nodes c.args.state.now c.closure_of.new.state c.done.new.state c.done.result went
+    (lasts_on nodes c.closure_of.new.state c.define.new.state c.done.new.state c.done.result on (c.done.ensures.closed nodes on.closed))
 
 pub returns-in-Some-clause-closed : goal.returns-in-Some-clause-closed
 returns-in-Some-clause-closed c nodes closed env =

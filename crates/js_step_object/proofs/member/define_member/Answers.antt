@@ -18,7 +18,7 @@ returns-in_ok-key-in-Function-clause-does c =
 pub returns-in-Nothing-clause-does : goal.returns-in-Nothing-clause-does
 returns-in-Nothing-clause-does c =
     let nodes = nodes_of c.args.tree.now in
-    rw (member_is (slice_get nodes c.args.node.0) c.args.node c.args.object c.args.scope (property_key nodes c.args.node c.args.key), ← c.member_at.ensures, c.in-Nothing.is) (c.end_member.ensures.does nodes)
+    rw (member_is (slice_get nodes c.args.node.0) c.args.node c.args.object c.args.scope (property_key nodes c.args.node c.args.key), ← c.member_at.ensures, c.in-Nothing.is) (c.done.ensures.does nodes)
 
 pub returns-in-Value-clause-closed : goal.returns-in-Value-clause-closed
 returns-in-Value-clause-closed c closed object scope =
@@ -34,4 +34,4 @@ returns-in_ok-key-in-Function-clause-closed c closed object scope =
 
 pub returns-in-Nothing-clause-closed : goal.returns-in-Nothing-clause-closed
 returns-in-Nothing-clause-closed c closed object scope =
-    c.end_member.ensures.closed (nodes_of c.args.tree.now) closed
+    c.done.ensures.closed (nodes_of c.args.tree.now) closed

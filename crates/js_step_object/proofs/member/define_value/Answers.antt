@@ -9,7 +9,7 @@ use Rattle.js_step_object.proofs.member.define_value.Goals as goal
 
 pub returns-in-None-clause-does : goal.returns-in-None-clause-does
 returns-in-None-clause-does c nodes =
-    comes_ok nodes (λ p. define c.args.object c.args.key (λ old. plain c.args.value) p) done c.args.state.now c.define.new.state c.end_member.new.state _ c.end_member.result (c.in_ok-define.ensures.does nodes (λ old. plain c.args.value) refl) c.in-None.is (c.end_member.ensures.does nodes)
+    comes_ok nodes (λ p. define c.args.object c.args.key (λ old. plain c.args.value) p) done c.args.state.now c.define.new.state c.done.new.state _ c.done.result (c.in_ok-define.ensures.does nodes (λ old. plain c.args.value) refl) c.in-None.is (c.done.ensures.does nodes)
 
 pub returns-in-Some-clause-does : goal.returns-in-Some-clause-does
 returns-in-Some-clause-does c nodes =
@@ -22,7 +22,7 @@ returns-in_err-define-clause-closed c nodes closed fit =
 pub returns-in-None-clause-closed : goal.returns-in-None-clause-closed
 returns-in-None-clause-closed c nodes closed fit =
     let went = c.in_ok-define.ensures.closed nodes closed fit in
-    lasts_on nodes c.args.state.now c.define.new.state c.end_member.new.state c.end_member.result went (c.end_member.ensures.closed nodes went.closed)
+    lasts_on nodes c.args.state.now c.define.new.state c.done.new.state c.done.result went (c.done.ensures.closed nodes went.closed)
 
 pub returns-in-Some-clause-closed : goal.returns-in-Some-clause-closed
 returns-in-Some-clause-closed c nodes closed fit =

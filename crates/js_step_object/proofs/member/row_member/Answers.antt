@@ -17,7 +17,7 @@ returns-in-Some-None-clause-does c =
 pub returns-in-None-clause-does : goal.returns-in-None-clause-does
 returns-in-None-clause-does c =
     let nodes = nodes_of c.args.tree.now in
-    rw (keyed_is (slice_get nodes c.args.node.0) c.args.node c.args.object c.args.scope, ← c.key_node.ensures, c.in-None.is) (c.end_member.ensures.does nodes)
+    rw (keyed_is (slice_get nodes c.args.node.0) c.args.node c.args.object c.args.scope, ← c.key_node.ensures, c.in-None.is) (c.done.ensures.does nodes)
 
 pub returns-in_err-inner-in-Some-Some-clause-closed : goal.returns-in_err-inner-in-Some-Some-clause-closed
 returns-in_err-inner-in-Some-Some-clause-closed c closed object scope =
@@ -33,4 +33,4 @@ returns-in-Some-None-clause-closed c closed object scope =
 
 pub returns-in-None-clause-closed : goal.returns-in-None-clause-closed
 returns-in-None-clause-closed c closed object scope =
-    c.end_member.ensures.closed (nodes_of c.args.tree.now) closed
+    c.done.ensures.closed (nodes_of c.args.tree.now) closed
