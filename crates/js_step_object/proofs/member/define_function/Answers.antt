@@ -13,7 +13,7 @@ returns-in-Err c nodes =
 pub returns-in-None : goal.returns-in-None
 returns-in-None c nodes =
     then_ok nodes (λ k. make_closure c.args.node c.args.env None k) (λ f. define c.args.object c.args.key (λ old. member_property c.args.part f old) done) c.args.state.now c.closure_of.new.state c.done.new.state _ c.in-Ok.function c.done.result (c.in_ok-function.ensures nodes) c.in-Ok.is
-    (comes_ok nodes (λ p. define c.args.object c.args.key (λ old. member_property c.args.part c.in-Ok.function old) p) done c.closure_of.new.state c.define.new.state c.done.new.state _ c.done.result (c.in_ok-define.ensures nodes (λ old. member_property c.args.part c.in-Ok.function old) (sym c.property_of-property.ensures)) c.in-None.is (c.done.ensures nodes))
+    (comes_ok nodes (λ p. define c.args.object c.args.key (λ old. member_property c.args.part c.in-Ok.function old) p) done c.closure_of.new.state c.define.new.state c.done.new.state _ c.done.result (c.in_ok-define.ensures nodes (λ old. member_property c.args.part c.in-Ok.function old) (sym c.property_of-property.ensures)) c.in-None.is (c.done.ensures.does nodes))
 
 pub returns-in-Some : goal.returns-in-Some
 returns-in-Some c nodes =

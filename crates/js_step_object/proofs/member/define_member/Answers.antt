@@ -17,4 +17,4 @@ returns-in_ok-key-in-Function c =
 pub returns-in-Nothing : goal.returns-in-Nothing
 returns-in-Nothing c =
     let nodes = nodes_of c.args.tree.now in
-    rw (member_is (slice_get nodes c.args.node.0) c.args.node c.args.object c.args.scope (property_key nodes c.args.node c.args.key), ← c.member_at.ensures, c.in-Nothing.is) (c.done.ensures nodes)
+    rw (member_is (slice_get nodes c.args.node.0) c.args.node c.args.object c.args.scope (property_key nodes c.args.node c.args.key), ← c.member_at.ensures, c.in-Nothing.is) (c.done.ensures.does nodes)

@@ -7,7 +7,7 @@ use Rattle.js_step_object.proofs.member.define_value.Goals as goal
 
 pub returns-in-None : goal.returns-in-None
 returns-in-None c nodes =
-    comes_ok nodes (λ p. define c.args.object c.args.key (λ old. plain c.args.value) p) done c.args.state.now c.define.new.state c.done.new.state _ c.done.result (c.in_ok-define.ensures nodes (λ old. plain c.args.value) refl) c.in-None.is (c.done.ensures nodes)
+    comes_ok nodes (λ p. define c.args.object c.args.key (λ old. plain c.args.value) p) done c.args.state.now c.define.new.state c.done.new.state _ c.done.result (c.in_ok-define.ensures nodes (λ old. plain c.args.value) refl) c.in-None.is (c.done.ensures.does nodes)
 
 pub returns-in-Some : goal.returns-in-Some
 returns-in-Some c nodes =

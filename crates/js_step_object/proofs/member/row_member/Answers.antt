@@ -16,4 +16,4 @@ returns-in-Some-None c =
 pub returns-in-None : goal.returns-in-None
 returns-in-None c =
     let nodes = nodes_of c.args.tree.now in
-    rw (keyed_is (slice_get nodes c.args.node.0) c.args.node c.args.object c.args.scope, ← c.key_node.ensures, c.in-None.is) (c.done.ensures nodes)
+    rw (keyed_is (slice_get nodes c.args.node.0) c.args.node c.args.object c.args.scope, ← c.key_node.ensures, c.in-None.is) (c.done.ensures.does nodes)
