@@ -6,7 +6,7 @@ ghost use Rattle.js_machine.specs.Frames.{after_rest, rest};
 ghost use Rattle.world_heap.specs.Heaps.{IsNoEnv};
 ghost use Rattle.world_heap.specs.Over.{ListOver, OptionOver};
 ghost use Rattle.js_machine.specs.Does.{Does, IsEntered, StepsDown, under_frame};
-ghost use Rattle.js_machine.specs.Closed.{ControlFits, FrameFits, IsClosed, Lasts, OutcomeFits, ScopeFits, ValueFits};
+ghost use Rattle.js_machine.specs.Closed.{AfterFits, ControlFits, FrameFits, IsClosed, Lasts, OutcomeFits, ScopeFits, ValueFits};
 
 use crate::frame::{AfterFrame, Frame};
 use crate::state::{Control, Next, State};
@@ -21,7 +21,8 @@ pub fn discard<T: Drop>(_value: T) {}
 
 /// Ends a row without a value, as that of a statement (ECMA-262, 14.5.1).
 pub fn done(state: &mut State) -> Result<Next, StepFault>
-    ensures { (nodes : List kind.Node) → IfOk result (λ next. Does nodes 6 done state.old state.new next) }
+    ensures does { (nodes : List kind.Node) → IfOk result (λ next. Does nodes 6 done state.old state.new next) }
+    ensures closed { (nodes : List kind.Node) → IsClosed nodes state.old → Lasts nodes state.old state.new result }
 {
     state.give(Outcome::Normal(Value::Undefined))
 }
@@ -48,7 +49,8 @@ impl State {
 
     /// What follows a reading is done with the value.
     pub fn hand(&mut self, frame: AfterFrame, value: Value) -> Result<Next, StepFault>
-        ensures { (nodes : List kind.Node) → IfOk result (λ next. Does nodes 6 (after_rest nodes frame value) self.old self.new next) }
+        ensures does { (nodes : List kind.Node) → IfOk result (λ next. Does nodes 6 (after_rest nodes frame value) self.old self.new next) }
+        ensures closed { (nodes : List kind.Node) → IsClosed nodes self.old → AfterFits nodes self.old.heap.cells frame → ValueFits self.old.heap.cells value → Lasts nodes self.old self.new result }
     {
         self.frames.push(Frame::After(frame))?;
         self.control = Control::Give(Outcome::Normal(value));

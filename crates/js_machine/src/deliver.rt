@@ -80,7 +80,8 @@ impl State {
         delivery: Delivery,
     ) -> Result<Next, StepFault>
         requires { does_await self.old delivery ≡ true }
-        ensures { IfOk result (λ next. Receives (nodes_of tree.now) (record { fresh = fresh; what = delivery }) self.old self.new next) }
+        ensures receives { IfOk result (λ next. Receives (nodes_of tree.now) (record { fresh = fresh; what = delivery }) self.old self.new next) }
+        ensures closed { (nodes : List tree_node.Node) → IsClosed nodes self.old → Lasts nodes self.old self.new result }
     {
         self.refill(fresh);
         match delivery {

@@ -8,4 +8,4 @@ returns-in-Some-clause-row c = row_ok (nodes_of c.args.tree.now) c.args.node c.a
 
 pub returns-in-None-clause-row : goal.returns-in-None-clause-row
 unfolding pattern_of
-returns-in-None-clause-row c = row_ok (nodes_of c.args.tree.now) c.args.node c.args.value c.args.scope _ _ _ (rw c.in-None.ensures (c.done.ensures (nodes_of c.args.tree.now)))
+returns-in-None-clause-row c = row_ok (nodes_of c.args.tree.now) c.args.node c.args.value c.args.scope _ _ _ (rw c.in-None.ensures (c.done.ensures.does (nodes_of c.args.tree.now)))

@@ -9,4 +9,4 @@ returns-in-Some c = node_ok (nodes_of c.args.tree.now) c.args.id c.args.scope (S
 
 pub returns-in-None : goal.returns-in-None
 unfolding row_of
-returns-in-None c = node_ok (nodes_of c.args.tree.now) c.args.id c.args.scope None _ _ _ c.in-None.ensures (c.done.ensures (nodes_of c.args.tree.now))
+returns-in-None c = node_ok (nodes_of c.args.tree.now) c.args.id c.args.scope None _ _ _ c.in-None.ensures (c.done.ensures.does (nodes_of c.args.tree.now))

@@ -12,4 +12,4 @@ turns-preserved c =
 
 pub returns : goal.returns
 returns c =
-    comes_to_rest (nodes_of c.args.tree.now) (record { fresh = c.args.fresh; what = c.args.delivery }) c.args.state.now c.receive.new.self c.turns.state c.args.out.now.items c.put.new.out.items c.turns.out.items c.in_ok-next.next (rw c.in_ok-next.was at c.receive.ensures) c.in_ok-put.ensures c.turns.invariant (sym c.is_running.ensures ∙ c.turns-test.false)
+    comes_to_rest (nodes_of c.args.tree.now) (record { fresh = c.args.fresh; what = c.args.delivery }) c.args.state.now c.receive.new.self c.turns.state c.args.out.now.items c.put.new.out.items c.turns.out.items c.in_ok-next.next (rw c.in_ok-next.was at c.receive.ensures.receives) c.in_ok-put.ensures c.turns.invariant (sym c.is_running.ensures ∙ c.turns-test.false)
