@@ -1,9 +1,8 @@
 -- What writing a property leaves fits, and the heap goes on.
-use Rattle.std.proofs.Common.{◌≡◌, ℕ, ◌+◌, ◌≤◌, ◌<◌, ℤ, pos, negsuc, List, [], ◌∷◌, ◌++◌, length, take, slice_set, Option, Some, None, Bool, true, false, Result, Ok, Err, nat_eq, nat_le, nat_lt, ◌==◌, if◌then◌else◌, refl, sym, ap, ◌∙◌, length-set, arith}
+use Rattle.std.proofs.Common.{◌≡◌, ℕ, ◌+◌, ℤ, pos, negsuc, List, [], ◌∷◌, ◌++◌, length, take, slice_set, Option, Some, None, Bool, true, false, Result, Ok, Err, nat_eq, nat_le, nat_lt, ◌==◌, if◌then◌else◌, refl, sym, ap, ◌∙◌, length-set}
 use Rattle.std.specs.Bool.{beq}
 use Rattle.std.specs.Prelude.{◌&&◌}
 use Rattle.std.specs.Cmp.Lexicographic.{pointwise}
-use Rattle.std.proofs.lemmas.Bool.Decides.{nat_tests}
 use Rattle.wl_text.specs.Number.{index_of}
 use Rattle.world_heap.specs.declared.value.Value.{Value}
 use Rattle.world_heap.specs.declared.value.Property.{Property}
@@ -12,16 +11,12 @@ use Rattle.world_heap.specs.declared.cell.Body.{Body}
 use Rattle.world_heap.specs.declared.cell.Cell.{Cell}
 use Rattle.world_heap.specs.declared.cell.Cell.TheVariants.{Array, Buffer, View}
 use Rattle.world_heap.specs.declared.limits.HeapFault.{HeapFault}
-use Rattle.world_heap.specs.declared.limits.HeapFault.TheVariants.{Cells, Places, Units}
 use Rattle.world_heap.specs.Maps.{find, put}
 use Rattle.world_heap.specs.Table.{found_under, put_under}
 use Rattle.world_heap.specs.Bodies.{body_of, with_body, with_byte}
 use Rattle.world_heap.specs.Over.{ListOver, OptionOver, PropertyOver, BodyOver, CellOver}
 use Rattle.world_heap.specs.Heaps.{IsCell, IsNoEnv, IsWithin, IsWell, Fits}
-use Rattle.world_heap.specs.declared.limits.Counts.{Counts}
-use Rattle.world_heap.specs.declared.limits.Full.TheVariants.{Places as FullPlaces, Units as FullUnits}
-use Rattle.world_heap.specs.Growth.{first_passed, grown}
-use Rattle.world_heap.specs.Views.{Bounds, HeapView}
+use Rattle.world_heap.specs.Views.{HeapView}
 use Rattle.world_heap.proofs.Wells.{fits_found, list_push}
 use Rattle.world_heap.proofs.Bodying.{alike_body, alike_byte, body_fits, fits_body}
 use Rattle.proto_props.specs.declared.chain.Reach.{Reach}
@@ -36,12 +31,9 @@ use Rattle.proto_props.proofs.Arrays.{over_take, over_set}
 use Rattle.js_names.specs.Growing.{Grows}
 use Rattle.js_names.proofs.Growing.{grows_not, grows_put}
 use Rattle.js_tree.specs.declared.node.Node.{Node}
-use Rattle.world_log.specs.declared.entry.Stop.{Stop}
-use Rattle.world_log.specs.declared.entry.Stop.TheVariants as stops
 use Rattle.js_machine.specs.declared.state.State.{State}
-use Rattle.js_machine.specs.declared.state.Control.TheVariants as controls
 use Rattle.js_machine.specs.Closed.{GoesOn, IsClosed, ValueFits}
-use Rattle.js_machine.proofs.Closing.{closed_control, closed_grown}
+use Rattle.js_machine.proofs.Closing.{closed_grown}
 use Rattle.js_calls.specs.Writing.{Written}
 
 -- the heap goes on through a change
@@ -211,48 +203,6 @@ carried_grows Stays old new r h fit = rw (ap (λ (v : HeapView). v.cells) h.1) (
 carried_grows (CallsSetter setter) old new r h fit = rw (ap (λ (v : HeapView). v.cells) h.1) (grows_not old.cells)
 carried_grows (Refuses refusal) old new r h fit = rw (ap (λ (v : HeapView). v.cells) h.1) (grows_not old.cells)
 
-not_units : (b : Bounds) (c : Counts) → c.units ≤ b.units → first_passed b c ≡ Some FullUnits → ⊥
-not_units b c le = go (nat_lt b.places c.places) (nat_lt b.units c.units) refl
-  where
-    go : (p u : Bool) → nat_lt b.units c.units ≡ u → (if p then Some FullPlaces else if u then Some FullUnits else None) ≡ Some FullUnits → ⊥
-    go true u e h = absurd (cc)
-    go false true e h = let lt : b.units < c.units = grind (arith, nat_tests) in absurd (omega arith)
-    go false false e h = absurd (cc)
-
--- Nothing else but memory and places runs out.
-pub never_units : (change : Change ℕ) (old new : HeapView) → old.counts.units ≤ old.limits.units → Carries change old (Err Units) new → ⊥
-never_units (Rewrites l c) old new le h = absurd (cc)
-never_units (Extends l c) old new le h = not_units old.limits (grown old.counts 0 1 0) (let e : old.counts.units + 0 ≡ old.counts.units = omega arith in rw e le) h.0
-never_units Stays old new le h = absurd (cc)
-never_units (CallsSetter setter) old new le h = absurd (cc)
-never_units (Refuses refusal) old new le h = absurd (cc)
-
-pub never_cells : (change : Change ℕ) (old new : HeapView) → Carries change old (Err Cells) new → ⊥
-never_cells (Rewrites l c) old new h = absurd (cc)
-never_cells (Extends l c) old new h = absurd h.0
-never_cells Stays old new h = absurd (cc)
-never_cells (CallsSetter setter) old new h = absurd (cc)
-never_cells (Refuses refusal) old new h = absurd (cc)
-
-not_extended : (nodes : List Node) (old new : State) → IsClosed nodes old → new.heap ≡ old.heap → new ≡ record old { heap = new.heap; control = controls.Stop } → GoesOn nodes old new
-not_extended nodes old new closed same is =
-    let whole : new ≡ record old { control = controls.Stop } = is ∙ ap (λ (h : HeapView). record old { heap = h; control = controls.Stop }) same in
-    rw whole (closed_control nodes old controls.Stop closed tt)
-
 -- the state goes on
-module _ (nodes : List Node) (change : Change ℕ) (old new : State) (closed : IsClosed nodes old) (fit : ChangeFits old.heap.cells change) where
-  pub written_done : (what : SetDone ℕ) → Written change old new (Ok what) → GoesOn nodes old new
-  written_done what h = closed_grown nodes old new closed (carried_grows change old.heap new.heap (Ok what) h.0 fit) (ap (λ s. s.frames.items) h.2) (ap (λ s. s.control) h.2)
-
-  pub written_not : (stop : Stop) → Written change old new (Err stop) → GoesOn nodes old new
-  written_not stops.Places h = not_extended nodes old new closed (same change h.0) h.1
-    where
-      same : (c : Change ℕ) → Carries c old.heap (Err Places) new.heap → new.heap ≡ old.heap
-      same (Rewrites l d) k = k.1
-      same (Extends l d) k = k.1
-      same Stays k = k.1
-      same (CallsSetter setter) k = k.1
-      same (Refuses refusal) k = k.1
-  written_not stops.Fuel h = absurd h
-  written_not stops.Cells h = absurd h
-  written_not stops.Units h = absurd h
+pub written_done : (nodes : List Node) (change : Change ℕ) (old new : State) → IsClosed nodes old → ChangeFits old.heap.cells change → (what : SetDone ℕ) → Written change old new (Ok what) → GoesOn nodes old new
+written_done nodes change old new closed fit what h = closed_grown nodes old new closed (carried_grows change old.heap new.heap (Ok what) h.0 fit) (ap (λ s. s.frames.items) h.2) (ap (λ s. s.control) h.2)
