@@ -205,4 +205,4 @@ carried_grows (Refuses refusal) old new r h fit = rw (ap (λ (v : HeapView). v.c
 
 -- the state goes on
 pub written_done : (nodes : List Node) (change : Change ℕ) (old new : State) → IsClosed nodes old → ChangeFits old.heap.cells change → (what : SetDone ℕ) → Written change old new (Ok what) → GoesOn nodes old new
-written_done nodes change old new closed fit what h = closed_grown nodes old new closed (carried_grows change old.heap new.heap (Ok what) h.0 fit) (ap (λ s. s.frames.items) h.2) (ap (λ s. s.control) h.2)
+written_done nodes change old new closed fit what h = closed_grown nodes old new closed (carried_grows change old.heap new.heap (Ok what) h.0 fit) (ap (λ s. s.frames.items) h.2) (ap (λ s. s.control) h.2) (ap (λ s. s.kind) h.2)

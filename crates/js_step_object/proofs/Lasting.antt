@@ -70,7 +70,7 @@ grows_item cells l p vs v found fit =
 
 -- another heap, which goes on
 rewrote : (nodes : List Node) (old : State) (heap : HeapView) (cells : List (ℕ × Cell ℕ)) → IsClosed nodes old → heap.cells ≡ cells → Grows old.heap.cells cells → GoesOn nodes old (record old { heap = heap })
-rewrote nodes old heap cells closed is grows = closed_grown nodes old (record old { heap = heap }) closed (rw is grows) refl refl
+rewrote nodes old heap cells closed is grows = closed_grown nodes old (record old { heap = heap }) closed (rw is grows) refl refl refl
 
 -- the same heap, and the world stops
 stopped : (nodes : List Node) (old new : State) (heap : HeapView) → IsClosed nodes old → heap ≡ old.heap → new ≡ record old { heap = heap; control = controls.Stop } → GoesOn nodes old new

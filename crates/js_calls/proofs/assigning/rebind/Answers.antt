@@ -13,5 +13,5 @@ pub returns-clause-closed : goal.returns-clause-closed
 returns-clause-closed c nodes closed value result_value =
     let old = c.args.state.now in
     let mid : State = record old { heap = c.bind_in.new.heap } in
-    let went = closed_grown nodes old mid closed (c.in_ok-bind_in.ensures.closed value) refl refl in
+    let went = closed_grown nodes old mid closed (c.in_ok-bind_in.ensures.closed value) refl refl refl in
     lasts_on nodes old mid c.give.new.self c.give.result went (c.give.ensures.closed nodes went.closed (value_grown nodes old.heap.cells mid.heap.cells went.grows c.args.result_value result_value))

@@ -16,5 +16,5 @@ returns-in-Err-clause-closed c nodes closed function =
 
 pub returns-clause-closed : goal.returns-clause-closed
 returns-clause-closed c nodes closed function =
-    let went = closed_grown nodes c.args.state.now (record c.args.state.now { heap = c.bind_in.new.heap }) closed (c.in-Ok.ensures.closed function) refl refl in
+    let went = closed_grown nodes c.args.state.now (record c.args.state.now { heap = c.bind_in.new.heap }) closed (c.in-Ok.ensures.closed function) refl refl refl in
     lasts_on nodes c.args.state.now (record c.args.state.now { heap = c.bind_in.new.heap }) c.give.new.self c.give.result went (c.give.ensures.closed nodes went.closed (went.grows.no_env c.args.function function))
