@@ -12,4 +12,4 @@ returns-then-made c nodes =
     rw c.if-made.true (made_ok nodes 6 c.args.value (λ v. after_rest nodes c.args.frame v) c.args.state.now c.count_units.new.self c.hand.new.self c.hand.result c.if-not-count_units.ensures (c.hand.ensures.does nodes))
 
 pub returns : goal.returns
-returns c nodes = rw c.if-made.false (unmade_ok nodes 6 c.args.value (λ v. after_rest nodes c.args.frame v) c.args.state.now c.hand-2.new.self c.hand-2.result (c.hand-2.ensures nodes))
+returns c nodes = rw c.if-made.false (unmade_ok nodes 6 c.args.value (λ v. after_rest nodes c.args.frame v) c.args.state.now c.hand-2.new.self c.hand-2.result (c.hand-2.ensures.does nodes))
