@@ -97,7 +97,7 @@ fn read(
     ensures { IfOk result (λ next. Does (nodes_of tree.now) 6 (read_by meant name.now (throw Fault.NotDefined) (λ v. after_rest (nodes_of tree.now) frame v)) state.old state.new next) }
 {
     match meant {
-        Named::Held(value) => hand(state, frame, value),
+        Named::Held(value) => state.hand(frame, value),
         Named::Unready => {
             discard(frame);
             state.throw(Fault::NotReady)

@@ -71,16 +71,6 @@ fn makes_unit(of: &Value, key: &Units) -> bool
     }
 }
 
-// What follows a reading is done with the value.
-pub(crate) fn hand(state: &mut State, frame: AfterFrame, value: Value) -> Result<Next, StepFault>
-    ensures does { (nodes : List kind.Node) → IfOk result (λ next. Does nodes 6 (after_rest nodes frame value) state.old state.new next) }
-    ensures closed { (nodes : List kind.Node) → IsClosed nodes state.old → AfterFits nodes state.old.heap.cells frame → ValueFits state.old.heap.cells value → Lasts nodes state.old state.new result }
-{
-    state.push(Some(Frame::After(frame)))?;
-    state.turn_to(Control::Give(Outcome::Normal(value)));
-    Ok(Next::Go)
-}
-
 // Goes on with a value, which counts a unit where it was made.
 fn give_made(
     state: &mut State,
@@ -97,9 +87,9 @@ fn give_made(
             discard(value);
             return Ok(stopped(Stop::Units));
         }
-        return hand(state, frame, value);
+        return state.hand(frame, value);
     }
-    hand(state, frame, value)
+    state.hand(frame, value)
 }
 
 // Goes on with what reading a property gives.
@@ -128,7 +118,7 @@ fn take_up(
         }
         Got::Absent => {
             discard(of);
-            hand(state, frame, Value::Undefined)
+            state.hand(frame, Value::Undefined)
         }
         Got::Refused => {
             discard(of);

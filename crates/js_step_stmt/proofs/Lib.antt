@@ -3,3 +3,5 @@ pub mod Ending
 pub mod Looping
 pub mod Making
 pub mod Stacking
+pub mod Fitting
+pub mod Leaving

@@ -8,6 +8,8 @@ ghost use Rattle.js_semantics.specs.Prog.{End, Enter, Node as NodeRequest, alloc
 ghost use Rattle.js_semantics.specs.Statements.{handle, inside, row_try};
 ghost use Rattle.js_machine.specs.Does.{Does};
 ghost use Rattle.js_machine.specs.Frames.{rest};
+ghost use Rattle.js_machine.specs.Closed.{FrameFits, IsClosed, Lasts, OutcomeFits, ScopeFits, ValueFits};
+ghost use Rattle.js_step_stmt.specs.Fitting.{BindingsFit};
 
 use crate::environments::{inside, pattern_bindings};
 use crate::simple::statement;
@@ -26,7 +28,8 @@ fn enter_under(
     node: NodeId,
     scope: Scope,
 ) -> Result<Next, StepFault>
-    ensures { (nodes : List kind.Node) → IfOk result (λ next. Does nodes 6 (Enter (NodeRequest node scope) (λ o. bind (rest nodes upper o) (λ p. rest nodes lower p))) state.old state.new next) }
+    ensures does { (nodes : List kind.Node) → IfOk result (λ next. Does nodes 6 (Enter (NodeRequest node scope) (λ o. bind (rest nodes upper o) (λ p. rest nodes lower p))) state.old state.new next) }
+    ensures closed { (nodes : List kind.Node) → IsClosed nodes state.old → FrameFits nodes state.old.heap.cells lower → FrameFits nodes state.old.heap.cells upper → ScopeFits nodes state.old.heap.cells scope → Lasts nodes state.old state.new result }
 {
     if state.steps == 0 {
         state.control = Control::Stop;
@@ -49,7 +52,8 @@ pub fn row_try(
     last: Option<NodeId>,
     scope: Scope,
 ) -> Result<Next, StepFault>
-    ensures { (nodes : List kind.Node) → IfOk result (λ next. Does nodes 6 (row_try block bind handler last scope) state.old state.new next) }
+    ensures does { (nodes : List kind.Node) → IfOk result (λ next. Does nodes 6 (row_try block bind handler last scope) state.old state.new next) }
+    ensures closed { (nodes : List kind.Node) → IsClosed nodes state.old → ScopeFits nodes state.old.heap.cells scope → Lasts nodes state.old state.new result }
 {
     let inner = copy_scope(state.alloc, &scope)?;
     let around = copy_scope(state.alloc, &scope)?;
@@ -73,7 +77,8 @@ fn bind_caught(
     value: Value,
     scope: Scope,
 ) -> Result<Next, StepFault>
-    ensures { (nodes : List kind.Node) → IfOk result (λ next. Does nodes 6 (bind_value pattern value scope (Enter (NodeRequest handler scope) (λ o. End o))) state.old state.new next) }
+    ensures does { (nodes : List kind.Node) → IfOk result (λ next. Does nodes 6 (bind_value pattern value scope (Enter (NodeRequest handler scope) (λ o. End o))) state.old state.new next) }
+    ensures closed { (nodes : List kind.Node) → IsClosed nodes state.old → ValueFits state.old.heap.cells value → ScopeFits nodes state.old.heap.cells scope → Lasts nodes state.old state.new result }
 {
     let inner = copy_scope(state.alloc, &scope)?;
     let frame = StatementFrame::HandlerBound { handler, scope };
@@ -89,7 +94,8 @@ fn handle_in(
     value: Value,
     scope: Scope,
 ) -> Result<Next, StepFault>
-    ensures { (nodes : List kind.Node) → IfOk result (λ next. Does nodes 6 (alloc (env_cell (Some scope.env) bindings) (λ env. bind_value pattern value (inside env scope) (Enter (NodeRequest handler (inside env scope)) (λ o. End o)))) state.old state.new next) }
+    ensures does { (nodes : List kind.Node) → IfOk result (λ next. Does nodes 6 (alloc (env_cell (Some scope.env) bindings) (λ env. bind_value pattern value (inside env scope) (Enter (NodeRequest handler (inside env scope)) (λ o. End o)))) state.old state.new next) }
+    ensures closed { (nodes : List kind.Node) → IsClosed nodes state.old → BindingsFit state.old.heap.cells bindings → ValueFits state.old.heap.cells value → ScopeFits nodes state.old.heap.cells scope → Lasts nodes state.old state.new result }
 {
     match state.make_environment(Some(scope.env), bindings)? {
         Ok(env) => bind_caught(state, pattern, handler, value, inside(env, scope)),
@@ -106,7 +112,8 @@ fn handle(
     value: Value,
     scope: Scope,
 ) -> Result<Next, StepFault>
-    ensures { IfOk result (λ next. Does (nodes_of tree.now) 6 (handle bind handler value scope) state.old state.new next) }
+    ensures does { IfOk result (λ next. Does (nodes_of tree.now) 6 (handle bind handler value scope) state.old state.new next) }
+    ensures closed { IsClosed (nodes_of tree.now) state.old → ValueFits state.old.heap.cells value → ScopeFits (nodes_of tree.now) state.old.heap.cells scope → Lasts (nodes_of tree.now) state.old state.new result }
 {
     match bind {
         Some(pattern) => {
@@ -126,7 +133,8 @@ pub fn caught(
     scope: Scope,
     outcome: Outcome,
 ) -> Result<Next, StepFault>
-    ensures { IfOk result (λ next. Does (nodes_of tree.now) 6 (rest (nodes_of tree.now) (Frame.Catch bind handler scope) outcome) state.old state.new next) }
+    ensures does { IfOk result (λ next. Does (nodes_of tree.now) 6 (rest (nodes_of tree.now) (Frame.Catch bind handler scope) outcome) state.old state.new next) }
+    ensures closed { IsClosed (nodes_of tree.now) state.old → ScopeFits (nodes_of tree.now) state.old.heap.cells scope → OutcomeFits (nodes_of tree.now) state.old.heap.cells outcome → Lasts (nodes_of tree.now) state.old state.new result }
 {
     match handler {
         Some(handler) => match outcome {
@@ -144,7 +152,8 @@ pub fn at_last(
     scope: Scope,
     outcome: Outcome,
 ) -> Result<Next, StepFault>
-    ensures { (nodes : List kind.Node) → IfOk result (λ next. Does nodes 6 (rest nodes (Frame.Last last scope) outcome) state.old state.new next) }
+    ensures does { (nodes : List kind.Node) → IfOk result (λ next. Does nodes 6 (rest nodes (Frame.Last last scope) outcome) state.old state.new next) }
+    ensures closed { (nodes : List kind.Node) → IsClosed nodes state.old → ScopeFits nodes state.old.heap.cells scope → OutcomeFits nodes state.old.heap.cells outcome → Lasts nodes state.old state.new result }
 {
     match last {
         Some(last) => state.enter(Frame::Replaced { before: outcome }, last, scope),
@@ -154,7 +163,8 @@ pub fn at_last(
 
 /// The end of a `finally`: what it ends with takes the place of the outcome before it, unless it is a value.
 pub fn replaced_by(state: &mut State, before: Outcome, outcome: Outcome) -> Result<Next, StepFault>
-    ensures { (nodes : List kind.Node) → IfOk result (λ next. Does nodes 6 (rest nodes (Frame.Replaced before) outcome) state.old state.new next) }
+    ensures does { (nodes : List kind.Node) → IfOk result (λ next. Does nodes 6 (rest nodes (Frame.Replaced before) outcome) state.old state.new next) }
+    ensures closed { (nodes : List kind.Node) → IsClosed nodes state.old → OutcomeFits nodes state.old.heap.cells before → OutcomeFits nodes state.old.heap.cells outcome → Lasts nodes state.old state.new result }
 {
     match outcome {
         Outcome::Normal(_) => state.give(before),

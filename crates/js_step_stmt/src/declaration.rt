@@ -7,10 +7,11 @@ ghost use Rattle.js_semantics.specs.Statements.{declare_pairs};
 ghost use Rattle.js_machine.specs.Does.{Does};
 ghost use Rattle.js_machine.specs.Parts.{declarators_of};
 ghost use Rattle.js_machine.specs.Frames.{statement_rest};
+ghost use Rattle.js_machine.specs.Closed.{IsClosed, Lasts, ScopeFits, ValueFits};
 
 use crate::lists::declarators_of;
-use crate::simple::statement;
-use js_machine::{Next, State, StatementFrame, copy_scope, done, next_of};
+use crate::simple::{done, statement};
+use js_machine::{Next, State, StatementFrame, copy_scope, next_of};
 use js_semantics::{Scope, StepFault};
 use js_tree::{NodeId, Tree};
 use world_heap::Value;
@@ -23,7 +24,8 @@ pub fn declare_pairs(
     at: usize,
     scope: Scope,
 ) -> Result<Next, StepFault>
-    ensures { IfOk result (λ next. Does (nodes_of tree.now) 6 (declare_pairs (drop at (declarators_of (slice_get (nodes_of tree.now) node.0))) scope) state.old state.new next) }
+    ensures does { IfOk result (λ next. Does (nodes_of tree.now) 6 (declare_pairs (drop at (declarators_of (slice_get (nodes_of tree.now) node.0))) scope) state.old state.new next) }
+    ensures closed { IsClosed (nodes_of tree.now) state.old → ScopeFits (nodes_of tree.now) state.old.heap.cells scope → Lasts (nodes_of tree.now) state.old state.new result }
 {
     match next_of(declarators_of(tree, node), at) {
         Some((pair, next)) => match pair.value {
@@ -47,7 +49,8 @@ fn bind_pair(
     scope: Scope,
     value: Value,
 ) -> Result<Next, StepFault>
-    ensures { (nodes : List kind.Node) → IfOk result (λ next_step. Does nodes 6 (bind_value bind value scope (declare_pairs (drop next (declarators_of (slice_get nodes node.0))) scope)) state.old state.new next_step) }
+    ensures does { (nodes : List kind.Node) → IfOk result (λ next_step. Does nodes 6 (bind_value bind value scope (declare_pairs (drop next (declarators_of (slice_get nodes node.0))) scope)) state.old state.new next_step) }
+    ensures closed { (nodes : List kind.Node) → IsClosed nodes state.old → ScopeFits nodes state.old.heap.cells scope → ValueFits state.old.heap.cells value → Lasts nodes state.old state.new result }
 {
     let inner = copy_scope(state.alloc, &scope)?;
     let frame = StatementFrame::Declared { node, next, scope };
@@ -63,7 +66,8 @@ pub fn declared_value(
     scope: Scope,
     value: Value,
 ) -> Result<Next, StepFault>
-    ensures { IfOk result (λ next. Does (nodes_of tree.now) 6 (statement_rest (nodes_of tree.now) (StatementFrame.DeclaredValue node at scope) value) state.old state.new next) }
+    ensures does { IfOk result (λ next. Does (nodes_of tree.now) 6 (statement_rest (nodes_of tree.now) (StatementFrame.DeclaredValue node at scope) value) state.old state.new next) }
+    ensures closed { IsClosed (nodes_of tree.now) state.old → ScopeFits (nodes_of tree.now) state.old.heap.cells scope → ValueFits state.old.heap.cells value → Lasts (nodes_of tree.now) state.old state.new result }
 {
     match next_of(declarators_of(tree, node), at) {
         Some((pair, next)) => bind_pair(state, pair.bind, node, next, scope, value),

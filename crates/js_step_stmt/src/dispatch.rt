@@ -5,6 +5,9 @@ ghost use Rattle.js_semantics.specs.Rows.{row_of};
 ghost use Rattle.js_machine.specs.Does.{Does};
 ghost use Rattle.js_machine.specs.Frames.{statement_rest};
 ghost use Rattle.js_step_stmt.specs.Choices.{is_statement, walks_list};
+ghost use Rattle.js_machine.specs.declared.frame.Frame.TheVariants.{OnValue};
+ghost use Rattle.js_machine.specs.declared.frame.ValueFrame.TheVariants.{Statement};
+ghost use Rattle.js_machine.specs.Closed.{FrameFits, IsClosed, Lasts, ScopeFits, ValueFits};
 
 use crate::attempt::row_try;
 use crate::declaration::{declare_pairs, declared_value};
@@ -12,10 +15,11 @@ use crate::items::run_items;
 use crate::iteration::{Walk, of_bound, row_for_of};
 use crate::loops::{do_tested, enter_for, for_tested, row_do_while, row_while, while_tested};
 use crate::simple::{
-    expression_end, if_end, return_end, row_expression, row_if, row_return, row_throw, throw_end,
+    done, expression_end, if_end, return_end, row_expression, row_if, row_return, row_throw,
+    throw_end,
 };
 use crate::turns::{for_start, row_for};
-use js_machine::{Next, State, StatementFrame, done};
+use js_machine::{Next, State, StatementFrame};
 use js_semantics::{Outcome, Scope, StepFault};
 use js_tree::{Node, NodeId, Tree};
 use world_heap::Value;
@@ -29,7 +33,8 @@ pub fn statement_end(
     value: Value,
 ) -> Result<Next, StepFault>
     requires { walks_list frame ≡ false }
-    ensures { IfOk result (λ next. Does (nodes_of tree.now) 6 (statement_rest (nodes_of tree.now) frame value) state.old state.new next) }
+    ensures does { IfOk result (λ next. Does (nodes_of tree.now) 6 (statement_rest (nodes_of tree.now) frame value) state.old state.new next) }
+    ensures closed { IsClosed (nodes_of tree.now) state.old → FrameFits (nodes_of tree.now) state.old.heap.cells (OnValue (Statement frame)) → ValueFits state.old.heap.cells value → Lasts (nodes_of tree.now) state.old state.new result }
 {
     match frame {
         StatementFrame::Item { node, next, scope } => run_items(state, tree, node, next, scope),
@@ -87,7 +92,8 @@ pub fn row_statement(
 ) -> Result<Next, StepFault>
     requires stands { slice_get (nodes_of tree.now) id.0 ≡ Some node.now }
     requires kind { is_statement node.now ≡ true }
-    ensures { IfOk result (λ next. Does (nodes_of tree.now) 6 (row_of (Some node.now) id scope) state.old state.new next) }
+    ensures does { IfOk result (λ next. Does (nodes_of tree.now) 6 (row_of (Some node.now) id scope) state.old state.new next) }
+    ensures closed { IsClosed (nodes_of tree.now) state.old → ScopeFits (nodes_of tree.now) state.old.heap.cells scope → Lasts (nodes_of tree.now) state.old state.new result }
 {
     match node {
         Node::Let(_) => declare_pairs(state, tree, id, 0, scope),

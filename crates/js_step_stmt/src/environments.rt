@@ -1,5 +1,5 @@
 //! Environments that rows make: for turns of loops, and for the names of patterns (ECMA-262, 9.1).
-ghost use Rattle.std.specs.Prelude.{◌≡◌, map, nat_eq, IfOk, Some};
+ghost use Rattle.std.specs.Prelude.{◌≡◌, map, nat_eq, MatchResult, Some};
 ghost use Rattle.world_heap.specs.Maps.{find};
 ghost use Rattle.js_names.specs.Patterns.{nodes_of};
 ghost use Rattle.js_semantics.specs.Environments.{bindings_at, names_of, unready};
@@ -24,7 +24,7 @@ pub fn inside(env: Loc, scope: Scope) -> Scope
 
 // The same value again, where there is one.
 fn copy_value(alloc: Global, value: &Option<Value>) -> Result<Option<Value>, StepFault>
-    ensures { IfOk result (λ copy. copy ≡ value.now) }
+    ensures { MatchResult result (λ copy. copy ≡ value.now) (λ fault. fault ≡ StepFault.Memory) }
 {
     match value {
         Some(value) => Ok(Some(value.copy(alloc)?)),
@@ -34,7 +34,7 @@ fn copy_value(alloc: Global, value: &Option<Value>) -> Result<Option<Value>, Ste
 
 // The same binding again.
 fn copy_binding(alloc: Global, binding: &Binding) -> Result<Binding, StepFault>
-    ensures { IfOk result (λ copy. copy ≡ binding.now) }
+    ensures { MatchResult result (λ copy. copy ≡ binding.now) (λ fault. fault ≡ StepFault.Memory) }
 {
     let name = binding.name.copy(alloc)?;
     let value = copy_value(alloc, &binding.value)?;
@@ -47,7 +47,7 @@ fn copy_binding(alloc: Global, binding: &Binding) -> Result<Binding, StepFault>
 
 // The same bindings again.
 fn copy_bindings(alloc: Global, bindings: &[Binding]) -> Result<Items<Binding>, StepFault>
-    ensures { IfOk result (λ copies. copies ≡ bindings.now) }
+    ensures { MatchResult result (λ copies. copies ≡ bindings.now) (λ fault. fault ≡ StepFault.Memory) }
 {
     let mut copies = Items::new(alloc);
     'bindings: for binding in bindings {
@@ -62,7 +62,7 @@ pub type Found = Option<(Option<Loc>, Items<Binding>)>;
 
 // What a cell has as an environment.
 fn environment_in(alloc: Global, cell: &Cell) -> Result<Found, StepFault>
-    ensures { IfOk result (λ found. found ≡ bindings_at (Some cell.now)) }
+    ensures { MatchResult result (λ found. found ≡ bindings_at (Some cell.now)) (λ fault. fault ≡ StepFault.Memory) }
 {
     match cell {
         Cell::Env { outer, bindings } => {
@@ -75,7 +75,7 @@ fn environment_in(alloc: Global, cell: &Cell) -> Result<Found, StepFault>
 
 /// Copies an environment's bindings; `None` where no environment stands. The cost is linear in them.
 pub fn environment_at(alloc: Global, heap: &Heap, env: Loc) -> Result<Found, StepFault>
-    ensures { IfOk result (λ found. found ≡ bindings_at (find nat_eq heap.now.cells env)) }
+    ensures { MatchResult result (λ found. found ≡ bindings_at (find nat_eq heap.now.cells env)) (λ fault. fault ≡ StepFault.Memory) }
 {
     match heap.get(env) {
         Some(cell) => environment_in(alloc, cell),
@@ -90,7 +90,7 @@ pub fn pattern_bindings(
     pattern: NodeId,
     fixed: bool,
 ) -> Result<Items<Binding>, StepFault>
-    ensures { IfOk result (λ bindings. bindings ≡ map (unready fixed) (names_of (nodes_of tree.now) pattern)) }
+    ensures { MatchResult result (λ bindings. bindings ≡ map (unready fixed) (names_of (nodes_of tree.now) pattern)) (λ fault. fault ≡ StepFault.Memory) }
 {
     let mut bindings = Items::new(alloc);
     declare_pattern(alloc, tree, pattern, fixed, &mut bindings)?;

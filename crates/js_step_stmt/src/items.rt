@@ -4,9 +4,10 @@ ghost use Rattle.js_names.specs.Patterns.{nodes_of};
 ghost use Rattle.js_semantics.specs.Statements.{run_items};
 ghost use Rattle.js_machine.specs.Does.{Does};
 ghost use Rattle.js_machine.specs.Parts.{items_of};
+ghost use Rattle.js_machine.specs.Closed.{IsClosed, Lasts, ScopeFits};
 
-use crate::simple::statement;
-use js_machine::{Next, State, StatementFrame, copy_scope, done, items_of, next_of};
+use crate::simple::{done, statement};
+use js_machine::{Next, State, StatementFrame, copy_scope, items_of, next_of};
 use js_semantics::{Scope, StepFault};
 use js_tree::{NodeId, Tree};
 
@@ -18,7 +19,8 @@ pub fn run_items(
     at: usize,
     scope: Scope,
 ) -> Result<Next, StepFault>
-    ensures { IfOk result (λ next. Does (nodes_of tree.now) 6 (run_items (drop at (items_of (slice_get (nodes_of tree.now) node.0))) scope) state.old state.new next) }
+    ensures does { IfOk result (λ next. Does (nodes_of tree.now) 6 (run_items (drop at (items_of (slice_get (nodes_of tree.now) node.0))) scope) state.old state.new next) }
+    ensures closed { IsClosed (nodes_of tree.now) state.old → ScopeFits (nodes_of tree.now) state.old.heap.cells scope → Lasts (nodes_of tree.now) state.old state.new result }
 {
     match next_of(items_of(tree, node), at) {
         Some((item, next)) => {

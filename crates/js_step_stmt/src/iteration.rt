@@ -1,5 +1,5 @@
 //! The turns of a `for` over the items of an array (ECMA-262, 14.7.5).
-ghost use Rattle.std.specs.Prelude.{◌≡◌, ◌+◌, List, IfOk, Some};
+ghost use Rattle.std.specs.Prelude.{◌≡◌, ◌+◌, nat_eq, List, IfOk, MatchResult, Some};
 ghost use Rattle.js_tree.specs.declared.node.Node as kind;
 ghost use Rattle.js_names.specs.Patterns.{nodes_of};
 ghost use Rattle.js_semantics.specs.Environments.{env_cell};
@@ -7,11 +7,14 @@ ghost use Rattle.js_semantics.specs.Prog.{End, Enter, ForOf, alloc};
 ghost use Rattle.js_semantics.specs.Statements.{inside, of_turn, row_for_of};
 ghost use Rattle.js_machine.specs.Does.{Does};
 ghost use Rattle.js_machine.specs.Frames.{rest, statement_rest};
+ghost use Rattle.js_machine.specs.Closed.{IsClosed, Lasts, OutcomeFits, ScopeFits, ValueFits};
+ghost use Rattle.world_heap.specs.Heaps.{IsNoEnv};
+ghost use Rattle.js_step_stmt.specs.Fitting.{BindingsFit};
 
 use crate::environments::{inside, pattern_bindings};
 use crate::patterns::item_at;
-use crate::simple::statement;
-use js_machine::{Frame, Next, State, StatementFrame, copy_scope, done, stopped};
+use crate::simple::{done, statement};
+use js_machine::{Frame, Next, State, StatementFrame, copy_scope, stopped};
 use js_semantics::{Outcome, Scope, StepFault};
 use js_tree::{NodeId, Tree};
 use sqlite_items::Items;
@@ -35,7 +38,8 @@ pub fn row_for_of(
     body: NodeId,
     scope: Scope,
 ) -> Result<Next, StepFault>
-    ensures { (nodes : List kind.Node) → IfOk result (λ next. Does nodes 6 (row_for_of constant bind list body scope) state.old state.new next) }
+    ensures does { (nodes : List kind.Node) → IfOk result (λ next. Does nodes 6 (row_for_of constant bind list body scope) state.old state.new next) }
+    ensures closed { (nodes : List kind.Node) → IsClosed nodes state.old → ScopeFits nodes state.old.heap.cells scope → Lasts nodes state.old state.new result }
 {
     let inner = copy_scope(state.alloc, &scope)?;
     let frame = StatementFrame::ForOfList {
@@ -56,7 +60,8 @@ fn bind_item(
     turn: Scope,
     around: Scope,
 ) -> Result<Next, StepFault>
-    ensures { (nodes : List kind.Node) → IfOk result (λ next. Does nodes 6 (Enter (ForOf walk.constant walk.bind walk.body walk.array place item turn around) (λ o. End o)) state.old state.new next) }
+    ensures does { (nodes : List kind.Node) → IfOk result (λ next. Does nodes 6 (Enter (ForOf walk.constant walk.bind walk.body walk.array place item turn around) (λ o. End o)) state.old state.new next) }
+    ensures closed { (nodes : List kind.Node) → IsClosed nodes state.old → IsNoEnv nat_eq state.old.heap.cells walk.array → ValueFits state.old.heap.cells item → ScopeFits nodes state.old.heap.cells turn → ScopeFits nodes state.old.heap.cells around → Lasts nodes state.old state.new result }
 {
     let inner = copy_scope(state.alloc, &turn)?;
     let frame = StatementFrame::ForOfBound {
@@ -80,7 +85,8 @@ fn turn_in(
     item: Value,
     around: Scope,
 ) -> Result<Next, StepFault>
-    ensures { (nodes : List kind.Node) → IfOk result (λ next. Does nodes 6 (alloc (env_cell (Some around.env) bindings) (λ env. Enter (ForOf walk.constant walk.bind walk.body walk.array place item (inside env around) around) (λ o. End o))) state.old state.new next) }
+    ensures does { (nodes : List kind.Node) → IfOk result (λ next. Does nodes 6 (alloc (env_cell (Some around.env) bindings) (λ env. Enter (ForOf walk.constant walk.bind walk.body walk.array place item (inside env around) around) (λ o. End o))) state.old state.new next) }
+    ensures closed { (nodes : List kind.Node) → IsClosed nodes state.old → BindingsFit state.old.heap.cells bindings → IsNoEnv nat_eq state.old.heap.cells walk.array → ValueFits state.old.heap.cells item → ScopeFits nodes state.old.heap.cells around → Lasts nodes state.old state.new result }
 {
     let outer = copy_scope(state.alloc, &around)?;
     match state.make_environment(Some(around.env), bindings)? {
@@ -97,7 +103,8 @@ pub fn of_turn(
     place: usize,
     around: Scope,
 ) -> Result<Next, StepFault>
-    ensures { IfOk result (λ next. Does (nodes_of tree.now) 6 (of_turn walk.constant walk.bind walk.body walk.array place around) state.old state.new next) }
+    ensures does { IfOk result (λ next. Does (nodes_of tree.now) 6 (of_turn walk.constant walk.bind walk.body walk.array place around) state.old state.new next) }
+    ensures closed { IsClosed (nodes_of tree.now) state.old → IsNoEnv nat_eq state.old.heap.cells walk.array → ScopeFits (nodes_of tree.now) state.old.heap.cells around → Lasts (nodes_of tree.now) state.old state.new result }
 {
     match item_at(state.alloc, &state.heap, walk.array, place)? {
         Some(item) => {
@@ -117,7 +124,8 @@ pub fn of_bound(
     around: Scope,
     value: Value,
 ) -> Result<Next, StepFault>
-    ensures { (nodes : List kind.Node) → IfOk result (λ next. Does nodes 6 (statement_rest nodes (StatementFrame.ForOfBound walk.constant walk.bind walk.body walk.array place turn around) value) state.old state.new next) }
+    ensures does { (nodes : List kind.Node) → IfOk result (λ next. Does nodes 6 (statement_rest nodes (StatementFrame.ForOfBound walk.constant walk.bind walk.body walk.array place turn around) value) state.old state.new next) }
+    ensures closed { (nodes : List kind.Node) → IsClosed nodes state.old → IsNoEnv nat_eq state.old.heap.cells walk.array → ScopeFits nodes state.old.heap.cells turn → ScopeFits nodes state.old.heap.cells around → ValueFits state.old.heap.cells value → Lasts nodes state.old state.new result }
 {
     let _ = value;
     let frame = Frame::ForOfBody {
@@ -133,7 +141,7 @@ pub fn of_bound(
 
 // The place behind another. An array with as many items doesn't fit into memory.
 fn behind(place: usize) -> Result<usize, StepFault>
-    ensures { IfOk result (λ next. next ≡ place + 1) }
+    ensures { MatchResult result (λ next. next ≡ place + 1) (λ fault. fault ≡ StepFault.Memory) }
 {
     match place.checked_add(1) {
         Some(next) => Ok(next),
@@ -150,7 +158,8 @@ pub fn of_body_end(
     around: Scope,
     outcome: Outcome,
 ) -> Result<Next, StepFault>
-    ensures { IfOk result (λ next. Does (nodes_of tree.now) 6 (rest (nodes_of tree.now) (Frame.ForOfBody walk.constant walk.bind walk.body walk.array place around) outcome) state.old state.new next) }
+    ensures does { IfOk result (λ next. Does (nodes_of tree.now) 6 (rest (nodes_of tree.now) (Frame.ForOfBody walk.constant walk.bind walk.body walk.array place around) outcome) state.old state.new next) }
+    ensures closed { IsClosed (nodes_of tree.now) state.old → IsNoEnv nat_eq state.old.heap.cells walk.array → ScopeFits (nodes_of tree.now) state.old.heap.cells around → OutcomeFits (nodes_of tree.now) state.old.heap.cells outcome → Lasts (nodes_of tree.now) state.old state.new result }
 {
     match outcome {
         Outcome::Normal(_) | Outcome::Continue => {

@@ -5,9 +5,10 @@ ghost use Rattle.js_semantics.specs.Prog.{DoWhile, End, Enter, For, While};
 ghost use Rattle.js_semantics.specs.Statements.{copy_scope, row_do_while, row_while, run_next};
 ghost use Rattle.js_machine.specs.Does.{Does};
 ghost use Rattle.js_machine.specs.Frames.{rest, statement_rest};
+ghost use Rattle.js_machine.specs.Closed.{IsClosed, Lasts, OutcomeFits, ScopeFits, ValueFits};
 
-use crate::simple::statement;
-use js_machine::{ForLoop, Frame, Next, State, StatementFrame, copy_scope, done};
+use crate::simple::{done, statement};
+use js_machine::{ForLoop, Frame, Next, State, StatementFrame, copy_scope};
 use js_operators::is_truthy;
 use js_semantics::{Outcome, Scope, StepFault};
 use js_tree::NodeId;
@@ -20,7 +21,8 @@ fn enter_while(
     body: NodeId,
     scope: Scope,
 ) -> Result<Next, StepFault>
-    ensures { (nodes : List kind.Node) → IfOk result (λ next. Does nodes 6 (Enter (While test body scope) (λ o. End o)) state.old state.new next) }
+    ensures does { (nodes : List kind.Node) → IfOk result (λ next. Does nodes 6 (Enter (While test body scope) (λ o. End o)) state.old state.new next) }
+    ensures closed { (nodes : List kind.Node) → IsClosed nodes state.old → ScopeFits nodes state.old.heap.cells scope → Lasts nodes state.old state.new result }
 {
     let inner = copy_scope(state.alloc, &scope)?;
     let frame = StatementFrame::WhileTest { test, body, scope };
@@ -35,7 +37,8 @@ pub fn row_while(
     body: NodeId,
     scope: Scope,
 ) -> Result<Next, StepFault>
-    ensures { (nodes : List kind.Node) → IfOk result (λ next. Does nodes 6 (row_while test body scope) state.old state.new next) }
+    ensures does { (nodes : List kind.Node) → IfOk result (λ next. Does nodes 6 (row_while test body scope) state.old state.new next) }
+    ensures closed { (nodes : List kind.Node) → IsClosed nodes state.old → ScopeFits nodes state.old.heap.cells scope → Lasts nodes state.old state.new result }
 {
     enter_while(state, test, body, scope)
 }
@@ -48,7 +51,8 @@ pub fn while_tested(
     scope: Scope,
     value: Value,
 ) -> Result<Next, StepFault>
-    ensures { (nodes : List kind.Node) → IfOk result (λ next. Does nodes 6 (statement_rest nodes (StatementFrame.WhileTest test body scope) value) state.old state.new next) }
+    ensures does { (nodes : List kind.Node) → IfOk result (λ next. Does nodes 6 (statement_rest nodes (StatementFrame.WhileTest test body scope) value) state.old state.new next) }
+    ensures closed { (nodes : List kind.Node) → IsClosed nodes state.old → ScopeFits nodes state.old.heap.cells scope → ValueFits state.old.heap.cells value → Lasts nodes state.old state.new result }
 {
     if is_truthy(&value) {
         let inner = copy_scope(state.alloc, &scope)?;
@@ -66,7 +70,8 @@ pub fn while_body_end(
     scope: Scope,
     outcome: Outcome,
 ) -> Result<Next, StepFault>
-    ensures { (nodes : List kind.Node) → IfOk result (λ next. Does nodes 6 (rest nodes (Frame.WhileBody test body scope) outcome) state.old state.new next) }
+    ensures does { (nodes : List kind.Node) → IfOk result (λ next. Does nodes 6 (rest nodes (Frame.WhileBody test body scope) outcome) state.old state.new next) }
+    ensures closed { (nodes : List kind.Node) → IsClosed nodes state.old → ScopeFits nodes state.old.heap.cells scope → OutcomeFits nodes state.old.heap.cells outcome → Lasts nodes state.old state.new result }
 {
     match outcome {
         Outcome::Normal(_) | Outcome::Continue => enter_while(state, test, body, scope),
@@ -78,7 +83,8 @@ pub fn while_body_end(
 
 // A turn of a `do`, from its body on.
 fn enter_do(state: &mut State, body: NodeId, test: NodeId, scope: Scope) -> Result<Next, StepFault>
-    ensures { (nodes : List kind.Node) → IfOk result (λ next. Does nodes 6 (Enter (DoWhile body test scope) (λ o. End o)) state.old state.new next) }
+    ensures does { (nodes : List kind.Node) → IfOk result (λ next. Does nodes 6 (Enter (DoWhile body test scope) (λ o. End o)) state.old state.new next) }
+    ensures closed { (nodes : List kind.Node) → IsClosed nodes state.old → ScopeFits nodes state.old.heap.cells scope → Lasts nodes state.old state.new result }
 {
     let inner = copy_scope(state.alloc, &scope)?;
     state.enter(Frame::DoBody { body, test, scope }, body, inner)
@@ -92,14 +98,16 @@ pub fn row_do_while(
     test: NodeId,
     scope: Scope,
 ) -> Result<Next, StepFault>
-    ensures { (nodes : List kind.Node) → IfOk result (λ next. Does nodes 6 (row_do_while body test scope) state.old state.new next) }
+    ensures does { (nodes : List kind.Node) → IfOk result (λ next. Does nodes 6 (row_do_while body test scope) state.old state.new next) }
+    ensures closed { (nodes : List kind.Node) → IsClosed nodes state.old → ScopeFits nodes state.old.heap.cells scope → Lasts nodes state.old state.new result }
 {
     enter_do(state, body, test, scope)
 }
 
 // The test of a `do`.
 fn test_do(state: &mut State, body: NodeId, test: NodeId, scope: Scope) -> Result<Next, StepFault>
-    ensures { (nodes : List kind.Node) → IfOk result (λ next. Does nodes 6 (rest nodes (Frame.DoBody body test scope) Outcome.Continue) state.old state.new next) }
+    ensures does { (nodes : List kind.Node) → IfOk result (λ next. Does nodes 6 (rest nodes (Frame.DoBody body test scope) Outcome.Continue) state.old state.new next) }
+    ensures closed { (nodes : List kind.Node) → IsClosed nodes state.old → ScopeFits nodes state.old.heap.cells scope → Lasts nodes state.old state.new result }
 {
     let inner = copy_scope(state.alloc, &scope)?;
     let frame = StatementFrame::DoTest { body, test, scope };
@@ -114,7 +122,8 @@ pub fn do_body_end(
     scope: Scope,
     outcome: Outcome,
 ) -> Result<Next, StepFault>
-    ensures { (nodes : List kind.Node) → IfOk result (λ next. Does nodes 6 (rest nodes (Frame.DoBody body test scope) outcome) state.old state.new next) }
+    ensures does { (nodes : List kind.Node) → IfOk result (λ next. Does nodes 6 (rest nodes (Frame.DoBody body test scope) outcome) state.old state.new next) }
+    ensures closed { (nodes : List kind.Node) → IsClosed nodes state.old → ScopeFits nodes state.old.heap.cells scope → OutcomeFits nodes state.old.heap.cells outcome → Lasts nodes state.old state.new result }
 {
     match outcome {
         Outcome::Normal(_) | Outcome::Continue => test_do(state, body, test, scope),
@@ -132,7 +141,8 @@ pub fn do_tested(
     scope: Scope,
     value: Value,
 ) -> Result<Next, StepFault>
-    ensures { (nodes : List kind.Node) → IfOk result (λ next. Does nodes 6 (statement_rest nodes (StatementFrame.DoTest body test scope) value) state.old state.new next) }
+    ensures does { (nodes : List kind.Node) → IfOk result (λ next. Does nodes 6 (statement_rest nodes (StatementFrame.DoTest body test scope) value) state.old state.new next) }
+    ensures closed { (nodes : List kind.Node) → IsClosed nodes state.old → ScopeFits nodes state.old.heap.cells scope → ValueFits state.old.heap.cells value → Lasts nodes state.old state.new result }
 {
     if is_truthy(&value) {
         enter_do(state, body, test, scope)
@@ -143,7 +153,8 @@ pub fn do_tested(
 
 /// A turn of a `for`: its test, or its body where it has no test.
 pub fn enter_for(state: &mut State, turn: ForLoop, scope: Scope) -> Result<Next, StepFault>
-    ensures { (nodes : List kind.Node) → IfOk result (λ next. Does nodes 6 (Enter (For turn.copied turn.test turn.next turn.body scope) (λ o. End o)) state.old state.new next) }
+    ensures does { (nodes : List kind.Node) → IfOk result (λ next. Does nodes 6 (Enter (For turn.copied turn.test turn.next turn.body scope) (λ o. End o)) state.old state.new next) }
+    ensures closed { (nodes : List kind.Node) → IsClosed nodes state.old → ScopeFits nodes state.old.heap.cells scope → Lasts nodes state.old state.new result }
 {
     let inner = copy_scope(state.alloc, &scope)?;
     match turn.test {
@@ -163,7 +174,8 @@ pub fn for_tested(
     scope: Scope,
     value: Value,
 ) -> Result<Next, StepFault>
-    ensures { (nodes : List kind.Node) → IfOk result (λ next. Does nodes 6 (statement_rest nodes (StatementFrame.ForTest turn scope) value) state.old state.new next) }
+    ensures does { (nodes : List kind.Node) → IfOk result (λ next. Does nodes 6 (statement_rest nodes (StatementFrame.ForTest turn scope) value) state.old state.new next) }
+    ensures closed { (nodes : List kind.Node) → IsClosed nodes state.old → ScopeFits nodes state.old.heap.cells scope → ValueFits state.old.heap.cells value → Lasts nodes state.old state.new result }
 {
     if is_truthy(&value) {
         let inner = copy_scope(state.alloc, &scope)?;
@@ -180,7 +192,8 @@ pub fn step_then(
     then: Option<NodeId>,
     scope: Scope,
 ) -> Result<Next, StepFault>
-    ensures { (nodes : List kind.Node) → IfOk result (λ next. Does nodes 6 (run_next then scope (Enter (For turn.copied turn.test turn.next turn.body scope) (λ o. End o))) state.old state.new next) }
+    ensures does { (nodes : List kind.Node) → IfOk result (λ next. Does nodes 6 (run_next then scope (Enter (For turn.copied turn.test turn.next turn.body scope) (λ o. End o))) state.old state.new next) }
+    ensures closed { (nodes : List kind.Node) → IsClosed nodes state.old → ScopeFits nodes state.old.heap.cells scope → Lasts nodes state.old state.new result }
 {
     match then {
         Some(node) => {

@@ -1,5 +1,5 @@
 //! The rows of patterns of names and arrays (ECMA-262, 14.3.3).
-ghost use Rattle.std.specs.Prelude.{◌≡◌, ◌+◌, ◌-◌, ◌^◌, ◌<◌, ◌∷◌, drop, nat_eq, slice_get, List, IfOk, Some};
+ghost use Rattle.std.specs.Prelude.{◌≡◌, ◌+◌, ◌-◌, ◌^◌, ◌<◌, ◌∷◌, drop, nat_eq, slice_get, List, IfOk, MatchResult, Some};
 ghost use Rattle.js_tree.specs.declared.node.Node as kind;
 ghost use Rattle.world_heap.specs.Maps.{find};
 ghost use Rattle.js_names.specs.Patterns.{nodes_of};
@@ -13,11 +13,12 @@ ghost use Rattle.js_step_stmt.specs.Choices.{is_array_cell};
 ghost use Rattle.js_machine.specs.Does.{Does};
 ghost use Rattle.js_machine.specs.Parts.{elements_of};
 ghost use Rattle.js_machine.specs.Frames.{pattern_rest};
+ghost use Rattle.js_machine.specs.Closed.{IsClosed, Lasts, ScopeFits, ValueFits};
+ghost use Rattle.world_heap.specs.Heaps.{IsNoEnv};
 
 use crate::lists::elements_of;
-use js_machine::{
-    Frame, Next, PatternFrame, State, ValueFrame, copy_scope, default_of, done, next_of,
-};
+use crate::simple::done;
+use js_machine::{Frame, Next, PatternFrame, State, ValueFrame, copy_scope, default_of, next_of};
 use js_names::fill_name;
 use js_semantics::{Fault, Scope, StepFault};
 use js_tree::{BindElement, NodeId, Tree};
@@ -39,7 +40,8 @@ pub fn bind_name(
     value: Value,
     scope: Scope,
 ) -> Result<Next, StepFault>
-    ensures { (nodes : List kind.Node) → IfOk result (λ next. Does nodes 6 (change (fill_name scope.env name.now value) done) state.old state.new next) }
+    ensures does { (nodes : List kind.Node) → IfOk result (λ next. Does nodes 6 (change (fill_name scope.env name.now value) done) state.old state.new next) }
+    ensures closed { (nodes : List kind.Node) → IsClosed nodes state.old → ValueFits state.old.heap.cells value → ScopeFits nodes state.old.heap.cells scope → Lasts nodes state.old state.new result }
 {
     fill_name(state.alloc, &mut state.heap, scope.env, name, value)?;
     done(state)
@@ -47,7 +49,7 @@ pub fn bind_name(
 
 // The item of an array in a cell.
 fn item_in(alloc: Global, cell: &Cell, place: usize) -> Result<Option<Value>, StepFault>
-    ensures { IfOk result (λ item. item ≡ slice_get (items_at (Some cell.now)) place) }
+    ensures { MatchResult result (λ item. item ≡ slice_get (items_at (Some cell.now)) place) (λ fault. fault ≡ StepFault.Memory) }
 {
     match cell {
         Cell::Array { items, .. } => match items.get(place) {
@@ -65,7 +67,7 @@ pub fn item_at(
     array: Loc,
     place: usize,
 ) -> Result<Option<Value>, StepFault>
-    ensures { IfOk result (λ item. item ≡ slice_get (items_at (find nat_eq heap.now.cells array)) place) }
+    ensures { MatchResult result (λ item. item ≡ slice_get (items_at (find nat_eq heap.now.cells array)) place) (λ fault. fault ≡ StepFault.Memory) }
 {
     match heap.get(array) {
         Some(cell) => item_in(alloc, cell, place),
@@ -83,7 +85,8 @@ fn bind_element(
     scope: Scope,
     value: Value,
 ) -> Result<Next, StepFault>
-    ensures { (nodes : List kind.Node) → IfOk result (λ made. Does nodes 6 (bind_value bind value scope (bind_elements (drop next (elements_of (slice_get nodes node.0))) next array scope)) state.old state.new made) }
+    ensures does { (nodes : List kind.Node) → IfOk result (λ made. Does nodes 6 (bind_value bind value scope (bind_elements (drop next (elements_of (slice_get nodes node.0))) next array scope)) state.old state.new made) }
+    ensures closed { (nodes : List kind.Node) → IsClosed nodes state.old → IsNoEnv nat_eq state.old.heap.cells array → ScopeFits nodes state.old.heap.cells scope → ValueFits state.old.heap.cells value → Lasts nodes state.old state.new result }
 {
     let inner = copy_scope(state.alloc, &scope)?;
     let frame = PatternFrame::ElementBound {
@@ -116,7 +119,8 @@ fn element(
     value: Value,
 ) -> Result<Next, StepFault>
     requires { at < 2 ^ 64 - 1 }
-    ensures { (nodes : List kind.Node) → drop at (elements_of (slice_get nodes node.0)) ≡ part ∷ drop (at + 1) (elements_of (slice_get nodes node.0)) → IfOk result (λ made. Does nodes 6 (or_default part.default value scope (λ y. bind_value part.bind y scope (bind_elements (drop (at + 1) (elements_of (slice_get nodes node.0))) (at + 1) array scope))) state.old state.new made) }
+    ensures does { (nodes : List kind.Node) → drop at (elements_of (slice_get nodes node.0)) ≡ part ∷ drop (at + 1) (elements_of (slice_get nodes node.0)) → IfOk result (λ made. Does nodes 6 (or_default part.default value scope (λ y. bind_value part.bind y scope (bind_elements (drop (at + 1) (elements_of (slice_get nodes node.0))) (at + 1) array scope))) state.old state.new made) }
+    ensures closed { (nodes : List kind.Node) → IsClosed nodes state.old → IsNoEnv nat_eq state.old.heap.cells array → ScopeFits nodes state.old.heap.cells scope → ValueFits state.old.heap.cells value → Lasts nodes state.old state.new result }
 {
     match default_of(&value, part.default) {
         Some(default) => {
@@ -142,7 +146,8 @@ pub fn bind_elements(
     array: Loc,
     scope: Scope,
 ) -> Result<Next, StepFault>
-    ensures { IfOk result (λ made. Does (nodes_of tree.now) 6 (bind_elements (drop at (elements_of (slice_get (nodes_of tree.now) node.0))) at array scope) state.old state.new made) }
+    ensures does { IfOk result (λ made. Does (nodes_of tree.now) 6 (bind_elements (drop at (elements_of (slice_get (nodes_of tree.now) node.0))) at array scope) state.old state.new made) }
+    ensures closed { IsClosed (nodes_of tree.now) state.old → IsNoEnv nat_eq state.old.heap.cells array → ScopeFits (nodes_of tree.now) state.old.heap.cells scope → Lasts (nodes_of tree.now) state.old state.new result }
 {
     match next_of(elements_of(tree, node), at) {
         Some(found) => {
@@ -163,7 +168,8 @@ pub fn element_defaulted(
     scope: Scope,
     value: Value,
 ) -> Result<Next, StepFault>
-    ensures { IfOk result (λ made. Does (nodes_of tree.now) 6 (pattern_rest (nodes_of tree.now) (PatternFrame.ElementDefault node at array scope) value) state.old state.new made) }
+    ensures does { IfOk result (λ made. Does (nodes_of tree.now) 6 (pattern_rest (nodes_of tree.now) (PatternFrame.ElementDefault node at array scope) value) state.old state.new made) }
+    ensures closed { IsClosed (nodes_of tree.now) state.old → IsNoEnv nat_eq state.old.heap.cells array → ScopeFits (nodes_of tree.now) state.old.heap.cells scope → ValueFits state.old.heap.cells value → Lasts (nodes_of tree.now) state.old state.new result }
 {
     match next_of(elements_of(tree, node), at) {
         Some((part, next)) => bind_element(state, part.bind, node, next, array, scope, value),
@@ -189,7 +195,8 @@ pub fn bind_array(
     value: Value,
     scope: Scope,
 ) -> Result<Next, StepFault>
-    ensures { IfOk result (λ made. Does (nodes_of tree.now) 6 (bind_array (elements_of (slice_get (nodes_of tree.now) node.0)) value scope) state.old state.new made) }
+    ensures does { IfOk result (λ made. Does (nodes_of tree.now) 6 (bind_array (elements_of (slice_get (nodes_of tree.now) node.0)) value scope) state.old state.new made) }
+    ensures closed { IsClosed (nodes_of tree.now) state.old → ValueFits state.old.heap.cells value → ScopeFits (nodes_of tree.now) state.old.heap.cells scope → Lasts (nodes_of tree.now) state.old state.new result }
 {
     match value {
         Value::Ref(loc) => bind_array_at(state, tree, node, loc, scope),
@@ -205,7 +212,8 @@ fn bind_array_at(
     loc: Loc,
     scope: Scope,
 ) -> Result<Next, StepFault>
-    ensures { IfOk result (λ made. Does (nodes_of tree.now) 6 (bind_array (elements_of (slice_get (nodes_of tree.now) node.0)) (Ref loc) scope) state.old state.new made) }
+    ensures does { IfOk result (λ made. Does (nodes_of tree.now) 6 (bind_array (elements_of (slice_get (nodes_of tree.now) node.0)) (Ref loc) scope) state.old state.new made) }
+    ensures closed { IsClosed (nodes_of tree.now) state.old → IsNoEnv nat_eq state.old.heap.cells loc → ScopeFits (nodes_of tree.now) state.old.heap.cells scope → Lasts (nodes_of tree.now) state.old state.new result }
 {
     if is_array(&state.heap, loc) {
         bind_elements(state, tree, node, 0, loc, scope)

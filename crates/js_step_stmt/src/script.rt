@@ -8,6 +8,7 @@ ghost use Rattle.js_semantics.specs.Prog.{Make, count_units};
 ghost use Rattle.js_semantics.specs.Run.{at_rest};
 ghost use Rattle.js_machine.specs.Does.{Does, world_of};
 ghost use Rattle.js_machine.specs.Frames.{rest};
+ghost use Rattle.js_machine.specs.Closed.{IsClosed, Lasts, OutcomeFits, ValueFits};
 
 use js_display::line_of;
 use js_machine::{Control, Frame, Next, State, stopped};
@@ -18,7 +19,8 @@ use world_log::{Product, Stop};
 
 // The task is done.
 fn rested(state: &mut State) -> Result<Next, StepFault>
-    ensures { (nodes : List kind.Node) → IfOk result (λ next. Does nodes 2 (at_rest Idle) state.old state.new next) }
+    ensures does { (nodes : List kind.Node) → IfOk result (λ next. Does nodes 2 (at_rest Idle) state.old state.new next) }
+    ensures closed { (nodes : List kind.Node) → IsClosed nodes state.old → Lasts nodes state.old state.new result }
 {
     state.turn_to(Control::AtRest(Mode::Idle));
     Ok(Next::Go)
@@ -26,7 +28,8 @@ fn rested(state: &mut State) -> Result<Next, StepFault>
 
 // Tells of an uncaught value, and the task is done.
 fn told(state: &mut State, text: Units) -> Result<Next, StepFault>
-    ensures { (nodes : List kind.Node) → IfOk result (λ next. Does nodes 2 (Make (Uncaught text) (at_rest Idle)) state.old state.new next) }
+    ensures does { (nodes : List kind.Node) → IfOk result (λ next. Does nodes 2 (Make (Uncaught text) (at_rest Idle)) state.old state.new next) }
+    ensures closed { (nodes : List kind.Node) → IsClosed nodes state.old → Lasts nodes state.old state.new result }
 {
     state.turn_to(Control::AtRest(Mode::Idle));
     Ok(Next::Made(Product::Uncaught(text)))
@@ -34,7 +37,8 @@ fn told(state: &mut State, text: Units) -> Result<Next, StepFault>
 
 // Counts the units of what is told of an uncaught value, and tells it.
 fn counted(state: &mut State, text: Units) -> Result<Next, StepFault>
-    ensures { (nodes : List kind.Node) → IfOk result (λ next. Does nodes 2 (count_units (length text) (Make (Uncaught text) (at_rest Idle))) state.old state.new next) }
+    ensures does { (nodes : List kind.Node) → IfOk result (λ next. Does nodes 2 (count_units (length text) (Make (Uncaught text) (at_rest Idle))) state.old state.new next) }
+    ensures closed { (nodes : List kind.Node) → IsClosed nodes state.old → Lasts nodes state.old state.new result }
 {
     if state.count_units(text.len()) {
         told(state, text)
@@ -45,7 +49,8 @@ fn counted(state: &mut State, text: Units) -> Result<Next, StepFault>
 
 // Shows a value that nothing caught.
 fn uncaught(state: &mut State, value: Value) -> Result<Next, StepFault>
-    ensures { (nodes : List kind.Node) → IfOk result (λ next. Does nodes 2 (rest nodes Frame.Script (Outcome.Thrown value)) state.old state.new next) }
+    ensures does { (nodes : List kind.Node) → IfOk result (λ next. Does nodes 2 (rest nodes Frame.Script (Outcome.Thrown value)) state.old state.new next) }
+    ensures closed { (nodes : List kind.Node) → IsClosed nodes state.old → ValueFits state.old.heap.cells value → Lasts nodes state.old state.new result }
 {
     let text = line_of(state.alloc, &state.heap, &[value])?;
     counted(state, text)
@@ -53,7 +58,8 @@ fn uncaught(state: &mut State, value: Value) -> Result<Next, StepFault>
 
 /// The end of the script: a thrown value that nothing caught is shown, and the task is done.
 pub fn script_end(state: &mut State, outcome: Outcome) -> Result<Next, StepFault>
-    ensures { (nodes : List kind.Node) → IfOk result (λ next. Does nodes 2 (rest nodes Frame.Script outcome) state.old state.new next) }
+    ensures does { (nodes : List kind.Node) → IfOk result (λ next. Does nodes 2 (rest nodes Frame.Script outcome) state.old state.new next) }
+    ensures closed { (nodes : List kind.Node) → IsClosed nodes state.old → OutcomeFits nodes state.old.heap.cells outcome → Lasts nodes state.old state.new result }
 {
     match outcome {
         Outcome::Thrown(value) => uncaught(state, value),

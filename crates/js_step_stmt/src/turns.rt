@@ -1,5 +1,5 @@
 //! The environments of a `for` (ECMA-262, 14.7.4): those of its turns, and the one of its declaration.
-ghost use Rattle.std.specs.Prelude.{◌≡◌, ◌∷◌, [], List, IfOk, Some, false, not, nat_eq, length, slice_get};
+ghost use Rattle.std.specs.Prelude.{◌≡◌, ◌∷◌, [], List, IfOk, MatchResult, Some, false, not, nat_eq, length, slice_get};
 ghost use Rattle.js_tree.specs.declared.node.Node as kind;
 ghost use Rattle.js_names.specs.Patterns.{nodes_of};
 ghost use Rattle.js_semantics.specs.Environments.{declared_in, env_cell};
@@ -7,11 +7,15 @@ ghost use Rattle.js_semantics.specs.Prog.{End, Enter, For, Node as NodeRequest, 
 ghost use Rattle.js_semantics.specs.Statements.{copy_scope, for_from, for_start, inside, row_for, run_next};
 ghost use Rattle.js_machine.specs.Does.{Does};
 ghost use Rattle.js_machine.specs.Frames.{rest};
+ghost use Rattle.js_machine.specs.Closed.{IsClosed, Lasts, OutcomeFits, ScopeFits};
+ghost use Rattle.world_heap.specs.Over.{OptionOver};
+ghost use Rattle.world_heap.specs.Heaps.{IsCell};
+ghost use Rattle.js_step_stmt.specs.Fitting.{BindingsFit};
 
 use crate::environments::{environment_at, inside};
 use crate::loops::step_then;
-use crate::simple::statement;
-use js_machine::{ForLoop, Frame, Next, State, StatementFrame, copy_scope, done, node_at, stopped};
+use crate::simple::{done, statement};
+use js_machine::{ForLoop, Frame, Next, State, StatementFrame, copy_scope, node_at, stopped};
 use js_names::declared_in;
 use js_semantics::{Outcome, Scope, StepFault};
 use js_tree::{Node, NodeId, Tree};
@@ -27,7 +31,8 @@ fn in_copy(
     bindings: Items<Binding>,
     scope: Scope,
 ) -> Result<Next, StepFault>
-    ensures { (nodes : List kind.Node) → IfOk result (λ next. Does nodes 6 (alloc (env_cell outer bindings) (λ env. run_next then (inside env scope) (Enter (For turn.copied turn.test turn.next turn.body (inside env scope)) (λ o. End o)))) state.old state.new next) }
+    ensures does { (nodes : List kind.Node) → IfOk result (λ next. Does nodes 6 (alloc (env_cell outer bindings) (λ env. run_next then (inside env scope) (Enter (For turn.copied turn.test turn.next turn.body (inside env scope)) (λ o. End o)))) state.old state.new next) }
+    ensures closed { (nodes : List kind.Node) → IsClosed nodes state.old → OptionOver (IsCell nat_eq state.old.heap.cells) outer → BindingsFit state.old.heap.cells bindings → ScopeFits nodes state.old.heap.cells scope → Lasts nodes state.old state.new result }
 {
     match state.make_environment(outer, bindings)? {
         Ok(env) => step_then(state, turn, then, inside(env, scope)),
@@ -42,7 +47,8 @@ fn copied_turn(
     then: Option<NodeId>,
     scope: Scope,
 ) -> Result<Next, StepFault>
-    ensures { (nodes : List kind.Node) → IfOk result (λ next. Does nodes 6 (copy_scope turn.copied scope (λ env. run_next then env (Enter (For turn.copied turn.test turn.next turn.body env) (λ o. End o)))) state.old state.new next) }
+    ensures does { (nodes : List kind.Node) → IfOk result (λ next. Does nodes 6 (copy_scope turn.copied scope (λ env. run_next then env (Enter (For turn.copied turn.test turn.next turn.body env) (λ o. End o)))) state.old state.new next) }
+    ensures closed { (nodes : List kind.Node) → IsClosed nodes state.old → ScopeFits nodes state.old.heap.cells scope → Lasts nodes state.old state.new result }
 {
     if turn.copied {
         match environment_at(state.alloc, &state.heap, scope.env)? {
@@ -56,7 +62,8 @@ fn copied_turn(
 
 /// The first turn of a `for`.
 pub fn for_start(state: &mut State, turn: ForLoop, scope: Scope) -> Result<Next, StepFault>
-    ensures { (nodes : List kind.Node) → IfOk result (λ next. Does nodes 6 (for_start turn.copied turn.test turn.next turn.body scope) state.old state.new next) }
+    ensures does { (nodes : List kind.Node) → IfOk result (λ next. Does nodes 6 (for_start turn.copied turn.test turn.next turn.body scope) state.old state.new next) }
+    ensures closed { (nodes : List kind.Node) → IsClosed nodes state.old → ScopeFits nodes state.old.heap.cells scope → Lasts nodes state.old state.new result }
 {
     copied_turn(state, turn, None, scope)
 }
@@ -68,7 +75,8 @@ pub fn for_body_end(
     scope: Scope,
     outcome: Outcome,
 ) -> Result<Next, StepFault>
-    ensures { (nodes : List kind.Node) → IfOk result (λ next. Does nodes 6 (rest nodes (Frame.ForBody turn scope) outcome) state.old state.new next) }
+    ensures does { (nodes : List kind.Node) → IfOk result (λ next. Does nodes 6 (rest nodes (Frame.ForBody turn scope) outcome) state.old state.new next) }
+    ensures closed { (nodes : List kind.Node) → IsClosed nodes state.old → ScopeFits nodes state.old.heap.cells scope → OutcomeFits nodes state.old.heap.cells outcome → Lasts nodes state.old state.new result }
 {
     match outcome {
         Outcome::Normal(_) => copied_turn(state, turn, turn.next, scope),
@@ -86,7 +94,8 @@ fn first_of(
     turn: ForLoop,
     scope: Scope,
 ) -> Result<Next, StepFault>
-    ensures { (nodes : List kind.Node) → IfOk result (λ next. Does nodes 6 (Enter (NodeRequest first scope) (λ o. on_value (λ v. for_start turn.copied turn.test turn.next turn.body scope) o)) state.old state.new next) }
+    ensures does { (nodes : List kind.Node) → IfOk result (λ next. Does nodes 6 (Enter (NodeRequest first scope) (λ o. on_value (λ v. for_start turn.copied turn.test turn.next turn.body scope) o)) state.old state.new next) }
+    ensures closed { (nodes : List kind.Node) → IsClosed nodes state.old → ScopeFits nodes state.old.heap.cells scope → Lasts nodes state.old state.new result }
 {
     let inner = copy_scope(state.alloc, &scope)?;
     state.enter(
@@ -104,7 +113,8 @@ fn declared_first(
     turn: ForLoop,
     scope: Scope,
 ) -> Result<Next, StepFault>
-    ensures { (nodes : List kind.Node) → IfOk result (λ next. Does nodes 6 (alloc (env_cell (Some scope.env) bindings) (λ env. Enter (NodeRequest first (inside env scope)) (λ o. on_value (λ v. for_start turn.copied turn.test turn.next turn.body (inside env scope)) o))) state.old state.new next) }
+    ensures does { (nodes : List kind.Node) → IfOk result (λ next. Does nodes 6 (alloc (env_cell (Some scope.env) bindings) (λ env. Enter (NodeRequest first (inside env scope)) (λ o. on_value (λ v. for_start turn.copied turn.test turn.next turn.body (inside env scope)) o))) state.old state.new next) }
+    ensures closed { (nodes : List kind.Node) → IsClosed nodes state.old → BindingsFit state.old.heap.cells bindings → ScopeFits nodes state.old.heap.cells scope → Lasts nodes state.old state.new result }
 {
     match state.make_environment(Some(scope.env), bindings)? {
         Ok(env) => first_of(state, first, turn, inside(env, scope)),
@@ -114,7 +124,7 @@ fn declared_first(
 
 // The bindings of a declaration's names, none of them ready.
 fn bindings_of(state: &State, tree: &Tree, first: NodeId) -> Result<Items<Binding>, StepFault>
-    ensures { IfOk result (λ bindings. bindings ≡ declared_in (nodes_of tree.now) (first ∷ [])) }
+    ensures { MatchResult result (λ bindings. bindings ≡ declared_in (nodes_of tree.now) (first ∷ [])) (λ fault. fault ≡ StepFault.Memory) }
 {
     Ok(declared_in(state.alloc, tree, &[first])?)
 }
@@ -138,7 +148,8 @@ fn for_node(
 ) -> Result<Next, StepFault>
     requires node { slice_get (nodes_of tree.now) first.0 ≡ Some node.now }
     requires turn { turn.copied ≡ false }
-    ensures { IfOk result (λ next. Does (nodes_of tree.now) 6 (for_from (nodes_of tree.now) (Some node.now) first turn.test turn.next turn.body scope) state.old state.new next) }
+    ensures does { IfOk result (λ next. Does (nodes_of tree.now) 6 (for_from (nodes_of tree.now) (Some node.now) first turn.test turn.next turn.body scope) state.old state.new next) }
+    ensures closed { IsClosed (nodes_of tree.now) state.old → ScopeFits (nodes_of tree.now) state.old.heap.cells scope → Lasts (nodes_of tree.now) state.old state.new result }
 {
     match node {
         Node::Let(_) => {
@@ -163,7 +174,8 @@ fn for_from(
     scope: Scope,
 ) -> Result<Next, StepFault>
     requires { turn.copied ≡ false }
-    ensures { IfOk result (λ next. Does (nodes_of tree.now) 6 (for_from (nodes_of tree.now) (slice_get (nodes_of tree.now) first.0) first turn.test turn.next turn.body scope) state.old state.new next) }
+    ensures does { IfOk result (λ next. Does (nodes_of tree.now) 6 (for_from (nodes_of tree.now) (slice_get (nodes_of tree.now) first.0) first turn.test turn.next turn.body scope) state.old state.new next) }
+    ensures closed { IsClosed (nodes_of tree.now) state.old → ScopeFits (nodes_of tree.now) state.old.heap.cells scope → Lasts (nodes_of tree.now) state.old state.new result }
 {
     match node_at(tree, first) {
         Some(node) => for_node(state, tree, node, first, turn, scope),
@@ -182,7 +194,8 @@ pub fn row_for(
     body: NodeId,
     scope: Scope,
 ) -> Result<Next, StepFault>
-    ensures { IfOk result (λ made. Does (nodes_of tree.now) 6 (row_for first test next body scope) state.old state.new made) }
+    ensures does { IfOk result (λ made. Does (nodes_of tree.now) 6 (row_for first test next body scope) state.old state.new made) }
+    ensures closed { IsClosed (nodes_of tree.now) state.old → ScopeFits (nodes_of tree.now) state.old.heap.cells scope → Lasts (nodes_of tree.now) state.old state.new result }
 {
     let turn = ForLoop {
         copied: false,

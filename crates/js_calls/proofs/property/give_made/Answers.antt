@@ -10,10 +10,10 @@ returns-then-not-count_units-clause-does c nodes =
 
 pub returns-then-made-clause-does : goal.returns-then-made-clause-does
 returns-then-made-clause-does c nodes =
-    rw c.if-made.true (made_ok nodes 6 c.args.value (λ v. after_rest nodes c.args.frame v) c.args.state.now c.count_units.new.self c.hand.new.state c.hand.result c.if-not-count_units.ensures (c.hand.ensures.does nodes))
+    rw c.if-made.true (made_ok nodes 6 c.args.value (λ v. after_rest nodes c.args.frame v) c.args.state.now c.count_units.new.self c.hand.new.self c.hand.result c.if-not-count_units.ensures (c.hand.ensures.does nodes))
 
 pub returns-clause-does : goal.returns-clause-does
-returns-clause-does c nodes = rw c.if-made.false (unmade_ok nodes 6 c.args.value (λ v. after_rest nodes c.args.frame v) c.args.state.now c.hand-2.new.state c.hand-2.result (c.hand-2.ensures.does nodes))
+returns-clause-does c nodes = rw c.if-made.false (unmade_ok nodes 6 c.args.value (λ v. after_rest nodes c.args.frame v) c.args.state.now c.hand-2.new.self c.hand-2.result (c.hand-2.ensures.does nodes))
 
 pub returns-then-not-count_units-clause-closed : goal.returns-then-not-count_units-clause-closed
 returns-then-not-count_units-clause-closed c nodes closed value frame = closed_units nodes 1 c.args.state.now c.count_units.new.self false closed c.if-not-count_units.ensures
@@ -23,7 +23,7 @@ returns-then-made-clause-closed c nodes closed value frame =
     let old = c.args.state.now in
     let mid = c.count_units.new.self in
     let went = closed_units nodes 1 old mid true closed c.if-not-count_units.ensures in
-    lasts_on nodes old mid c.hand.new.state c.hand.result went
+    lasts_on nodes old mid c.hand.new.self c.hand.result went
     (c.hand.ensures.closed nodes went.closed (after_grown nodes old.heap.cells mid.heap.cells went.grows c.args.frame frame) (value_grown nodes old.heap.cells mid.heap.cells went.grows c.args.value value))
 
 pub returns-clause-closed : goal.returns-clause-closed

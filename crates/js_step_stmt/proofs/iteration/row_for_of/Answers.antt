@@ -1,6 +1,9 @@
 use Rattle.js_semantics.specs.Statements.{row_for_of}
 use Rattle.js_step_stmt.proofs.iteration.row_for_of.Goals as goal
 
-pub returns : goal.returns
+pub returns-clause-does : goal.returns-clause-does
 unfolding row_for_of
-returns c nodes = rw (c.statement.ensures, c.in_ok-inner.ensures) at (c.enter.ensures.many nodes)
+returns-clause-does c nodes = rw (c.statement.ensures, c.in_ok-inner.ensures) at (c.enter.ensures.many nodes)
+
+pub returns-clause-closed : goal.returns-clause-closed
+returns-clause-closed c nodes closed scope = c.enter.ensures.closed nodes closed (rw c.statement.ensures scope) (rw c.in_ok-inner.ensures scope)

@@ -8,5 +8,8 @@ use Rattle.js_machine.specs.Does.{world_of}
 use Rattle.std.specs.Prelude.{length}
 use Rattle.js_step_stmt.proofs.script.uncaught.Goals as goal
 
-pub returns : goal.returns
-returns c nodes = does_read_ok nodes 2 _ _ _ _ _ (λ supply. ap (λ t. count_units (length t) (Make (Uncaught t) (at_rest Idle))) (sym (c.in_ok-text.ensures (world_of nodes supply c.args.state.now)))) (c.counted.ensures nodes)
+pub returns-clause-does : goal.returns-clause-does
+returns-clause-does c nodes = does_read_ok nodes 2 _ _ _ _ _ (λ supply. ap (λ t. count_units (length t) (Make (Uncaught t) (at_rest Idle))) (sym (c.in_ok-text.ensures (world_of nodes supply c.args.state.now)))) (c.counted.ensures.does nodes)
+
+pub returns-clause-closed : goal.returns-clause-closed
+returns-clause-closed c nodes closed value = c.counted.ensures.closed nodes closed
