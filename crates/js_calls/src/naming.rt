@@ -13,7 +13,7 @@ ghost use Rattle.js_machine.specs.Frames.{after_rest};
 ghost use Rattle.js_calls.specs.Closed.{NamedFits};
 ghost use Rattle.js_calls.specs.Naming.{named, read_by, value_named};
 
-use crate::property::{get, hand};
+use crate::property::get;
 use js_machine::{AfterFrame, Next, State, discard, is_cell};
 use js_names::binding_of;
 use js_semantics::{Fault, StepFault};

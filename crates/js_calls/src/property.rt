@@ -14,8 +14,8 @@ ghost use Rattle.js_calls.specs.Closed.{GotFits};
 ghost use Rattle.js_calls.specs.Reading.{made_value};
 
 use crate::calling::call_over;
-use js_machine::{AfterFrame, Control, Frame, Next, State, discard, is_cell, stopped};
-use js_semantics::{Fault, Outcome, StepFault};
+use js_machine::{AfterFrame, Next, State, discard, is_cell, stopped};
+use js_semantics::{Fault, StepFault};
 use js_tree::Tree;
 use proto_props::{Got, get_step};
 use sqlite_items::Items;

@@ -10,8 +10,8 @@ ghost use Rattle.js_machine.specs.Frames.{statement_rest};
 ghost use Rattle.js_machine.specs.Closed.{IsClosed, Lasts, ScopeFits, ValueFits};
 
 use crate::lists::declarators_of;
-use crate::simple::{done, statement};
-use js_machine::{Next, State, StatementFrame, copy_scope, next_of};
+use crate::simple::statement;
+use js_machine::{Next, State, StatementFrame, copy_scope, done, next_of};
 use js_semantics::{Scope, StepFault};
 use js_tree::{NodeId, Tree};
 use world_heap::Value;

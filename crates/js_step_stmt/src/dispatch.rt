@@ -15,11 +15,10 @@ use crate::items::run_items;
 use crate::iteration::{Walk, of_bound, row_for_of};
 use crate::loops::{do_tested, enter_for, for_tested, row_do_while, row_while, while_tested};
 use crate::simple::{
-    done, expression_end, if_end, return_end, row_expression, row_if, row_return, row_throw,
-    throw_end,
+    expression_end, if_end, return_end, row_expression, row_if, row_return, row_throw, throw_end,
 };
 use crate::turns::{for_start, row_for};
-use js_machine::{Next, State, StatementFrame};
+use js_machine::{Next, State, StatementFrame, done};
 use js_semantics::{Outcome, Scope, StepFault};
 use js_tree::{Node, NodeId, Tree};
 use world_heap::Value;

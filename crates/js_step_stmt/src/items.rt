@@ -6,8 +6,8 @@ ghost use Rattle.js_machine.specs.Does.{Does};
 ghost use Rattle.js_machine.specs.Parts.{items_of};
 ghost use Rattle.js_machine.specs.Closed.{IsClosed, Lasts, ScopeFits};
 
-use crate::simple::{done, statement};
-use js_machine::{Next, State, StatementFrame, copy_scope, items_of, next_of};
+use crate::simple::statement;
+use js_machine::{Next, State, StatementFrame, copy_scope, done, items_of, next_of};
 use js_semantics::{Scope, StepFault};
 use js_tree::{NodeId, Tree};
 

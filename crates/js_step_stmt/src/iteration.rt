@@ -13,8 +13,8 @@ ghost use Rattle.js_step_stmt.specs.Fitting.{BindingsFit};
 
 use crate::environments::{inside, pattern_bindings};
 use crate::patterns::item_at;
-use crate::simple::{done, statement};
-use js_machine::{Frame, Next, State, StatementFrame, copy_scope, stopped};
+use crate::simple::statement;
+use js_machine::{Frame, Next, State, StatementFrame, copy_scope, done, stopped};
 use js_semantics::{Outcome, Scope, StepFault};
 use js_tree::{NodeId, Tree};
 use sqlite_items::Items;

@@ -7,8 +7,8 @@ ghost use Rattle.js_machine.specs.Does.{Does};
 ghost use Rattle.js_machine.specs.Frames.{rest, statement_rest};
 ghost use Rattle.js_machine.specs.Closed.{IsClosed, Lasts, OutcomeFits, ScopeFits, ValueFits};
 
-use crate::simple::{done, statement};
-use js_machine::{ForLoop, Frame, Next, State, StatementFrame, copy_scope};
+use crate::simple::statement;
+use js_machine::{ForLoop, Frame, Next, State, StatementFrame, copy_scope, done};
 use js_operators::is_truthy;
 use js_semantics::{Outcome, Scope, StepFault};
 use js_tree::NodeId;

@@ -17,8 +17,9 @@ ghost use Rattle.js_machine.specs.Closed.{IsClosed, Lasts, ScopeFits, ValueFits}
 ghost use Rattle.world_heap.specs.Heaps.{IsNoEnv};
 
 use crate::lists::elements_of;
-use crate::simple::done;
-use js_machine::{Frame, Next, PatternFrame, State, ValueFrame, copy_scope, default_of, next_of};
+use js_machine::{
+    Frame, Next, PatternFrame, State, ValueFrame, copy_scope, default_of, done, next_of,
+};
 use js_names::fill_name;
 use js_semantics::{Fault, Scope, StepFault};
 use js_tree::{BindElement, NodeId, Tree};

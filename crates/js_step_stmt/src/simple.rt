@@ -7,7 +7,7 @@ ghost use Rattle.js_machine.specs.Does.{Does};
 ghost use Rattle.js_machine.specs.Frames.{statement_rest};
 ghost use Rattle.js_machine.specs.Closed.{IsClosed, Lasts, ScopeFits, ValueFits};
 
-use js_machine::{Frame, Next, State, StatementFrame, ValueFrame, copy_scope};
+use js_machine::{Frame, Next, State, StatementFrame, ValueFrame, copy_scope, done};
 use js_operators::is_truthy;
 use js_semantics::{Outcome, Scope, StepFault};
 use js_tree::NodeId;
@@ -18,14 +18,6 @@ pub fn statement(frame: StatementFrame) -> Frame
     ensures { result ≡ Frame.OnValue (ValueFrame.Statement frame) }
 {
     Frame::OnValue(ValueFrame::Statement(frame))
-}
-
-/// Ends a row without a value, as that of a statement (ECMA-262, 14.5.1).
-pub fn done(state: &mut State) -> Result<Next, StepFault>
-    ensures does { (nodes : List kind.Node) → IfOk result (λ next. Does nodes 6 done state.old state.new next) }
-    ensures closed { (nodes : List kind.Node) → IsClosed nodes state.old → Lasts nodes state.old state.new result }
-{
-    state.give(Outcome::Normal(Value::Undefined))
 }
 
 /// An expression statement (ECMA-262, 14.5).

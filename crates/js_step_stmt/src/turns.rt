@@ -14,8 +14,8 @@ ghost use Rattle.js_step_stmt.specs.Fitting.{BindingsFit};
 
 use crate::environments::{environment_at, inside};
 use crate::loops::step_then;
-use crate::simple::{done, statement};
-use js_machine::{ForLoop, Frame, Next, State, StatementFrame, copy_scope, node_at, stopped};
+use crate::simple::statement;
+use js_machine::{ForLoop, Frame, Next, State, StatementFrame, copy_scope, done, node_at, stopped};
 use js_names::declared_in;
 use js_semantics::{Outcome, Scope, StepFault};
 use js_tree::{Node, NodeId, Tree};

@@ -6,7 +6,7 @@ use Rattle.js_iterate.proofs.rests.for_of_list.Goals as goal
 
 pub returns-in-Ok : goal.returns-in-Ok
 returns-in-Ok c =
-    walk_ok (nodes_of c.args.tree.now) 6 c.args.value.now (λ array. of_turn c.args.constant c.args.bind c.args.body array 0 c.args.scope) c.args.state.now c.walk_value.new.state _ (c.in_ok-array.ensures (nodes_of c.args.tree.now)) c.of_turn.new.state c.in-Ok.array c.of_turn.result c.in-Ok.is c.of_turn.ensures
+    walk_ok (nodes_of c.args.tree.now) 6 c.args.value.now (λ array. of_turn c.args.constant c.args.bind c.args.body array 0 c.args.scope) c.args.state.now c.walk_value.new.state _ (c.in_ok-array.ensures (nodes_of c.args.tree.now)) c.of_turn.new.state c.in-Ok.array c.of_turn.result c.in-Ok.is c.of_turn.ensures.does
 
 pub returns-in-Err : goal.returns-in-Err
 returns-in-Err c =

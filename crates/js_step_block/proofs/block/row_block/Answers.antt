@@ -9,7 +9,7 @@ use Rattle.js_step_block.proofs.block.row_block.Goals as goal
 
 pub returns-then-is_empty : goal.returns-then-is_empty
 unfolding row_block
-returns-then-is_empty c = does_read_ok (nodes_of c.args.tree.now) 6 _ _ _ _ _ (λ supply. ap (λ bs. enter_block bs (items_of (slice_get (nodes_of c.args.tree.now) c.args.node.0)) c.args.scope) (sym (rw c.items_of.ensures at c.in_ok-bindings.ensures) ∙ c.if-is_empty.ensures.0 refl)) c.run_items.ensures
+returns-then-is_empty c = does_read_ok (nodes_of c.args.tree.now) 6 _ _ _ _ _ (λ supply. ap (λ bs. enter_block bs (items_of (slice_get (nodes_of c.args.tree.now) c.args.node.0)) c.args.scope) (sym (rw c.items_of.ensures at c.in_ok-bindings.ensures) ∙ c.if-is_empty.ensures.0 refl)) c.run_items.ensures.does
 
 pub returns-else-is_empty : goal.returns-else-is_empty
 unfolding row_block

@@ -1,4 +1,0 @@
-use Rattle.js_step_stmt.proofs.simple.done.Goals as goal
-
-pub returns-clause-closed : goal.returns-clause-closed
-returns-clause-closed c nodes closed = c.give.ensures.closed nodes closed tt
