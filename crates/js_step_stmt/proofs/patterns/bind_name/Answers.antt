@@ -9,5 +9,5 @@ returns-clause-does c nodes = does_change_ok nodes 6 _ _ _ _ _ _ _ refl c.in_ok-
 pub returns-clause-closed : goal.returns-clause-closed
 returns-clause-closed c nodes closed value scope =
     let mid = record c.args.state.now { heap = c.fill_name.new.heap } in
-    let went = closed_grown nodes c.args.state.now mid closed (c.in_ok-fill_name.ensures.closed value) refl refl in
+    let went = closed_grown nodes c.args.state.now mid closed (c.in_ok-fill_name.ensures.closed value) refl refl refl in
     lasts_on nodes c.args.state.now mid c.done.new.state c.done.result went (c.done.ensures.closed nodes went.closed)
