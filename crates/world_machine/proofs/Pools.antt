@@ -15,7 +15,7 @@ use Rattle.js_machine.specs.Does.{Follows}
 use Rattle.alone_laws.specs.Turns.{Turns}
 use Rattle.world_machine.specs.declared.machine.Machine.{Machine}
 use Rattle.world_machine.specs.declared.world.World.{World}
-use Rattle.world_machine.specs.World.{Counts, IsComing, IsFilling, IsIn, IsRunning, Promises, Sits, Spares, Turning, coming_from, owner_of, size_in}
+use Rattle.world_machine.specs.World.{Counts, IsComing, IsFilling, IsIn, Promises, Sits, Spares, coming_from, owner_of, size_in}
 
 module _ {C : Type 0} where
   pub find-without : (maps : List (ℕ × C)) (o k : ℕ) → k ≢ o → find nat_eq (without nat_eq maps o) k ≡ find nat_eq maps k
@@ -63,31 +63,6 @@ sits_at w pool m e h =
 pub in_by : (w : World) (pool : PoolView) (m : Machine) → w.machine ≡ Some m → Sits (nodes_of w.script) m pool → IsIn w pool
 unfolding IsIn
 in_by w pool m e h = subst (λ x. IsSomeAnd x (λ m. Sits (nodes_of w.script) m pool)) (sym e) h
-
--- the same where it may be running
-pub running_in : (w : World) (pool : PoolView) → IsRunning w pool → (m : Machine) × (w.machine ≡ Some m) × Turning (nodes_of w.script) m pool
-unfolding IsRunning
-running_in w pool h = elim w.machine as (λ x. IsSomeAnd x (λ m. Turning (nodes_of w.script) m pool) → (m : Machine) × (x ≡ Some m) × Turning (nodes_of w.script) m pool) [
-  | None ↦ λ q. absurd q
-  | Some m ↦ λ q. (m, refl, q)
-] h
-
-pub running_at : (w : World) (pool : PoolView) (m : Machine) → w.machine ≡ Some m → IsRunning w pool → Turning (nodes_of w.script) m pool
-running_at w pool m e h =
-    let at = running_in w pool h in
-    let one : Some at.0 ≡ Some m = sym at.1 ∙ e in
-    let same : at.0 ≡ m = cc in
-    subst (λ x. Turning (nodes_of w.script) x pool) same at.2
-
-pub running_by : (w : World) (pool : PoolView) (m : Machine) → w.machine ≡ Some m → Turning (nodes_of w.script) m pool → IsRunning w pool
-unfolding IsRunning
-running_by w pool m e h = subst (λ x. IsSomeAnd x (λ m. Turning (nodes_of w.script) m pool)) (sym e) h
-
--- what stands between two deliveries may go on
-pub runs_in : (w : World) (pool : PoolView) → IsIn w pool → IsRunning w pool
-runs_in w pool h =
-    let at = machine_in w pool h in
-    running_by w pool at.0 at.1 (record { owned = at.2.owned; below = at.2.below; distinct = at.2.distinct; inside = false; turns = at.2.turns })
 
 pub coming_by : (w : World) (pool : PoolView) (m : Machine) (coming : List Arrival → List Entry) → w.machine ≡ Some m → Promises (nodes_of w.script) m (values_of pool.maps m.seat.owner) coming → IsComing w pool coming
 unfolding IsComing

@@ -6,12 +6,8 @@ use Rattle.world_machine.specs.declared.world.World.{World}
 use Rattle.world_machine.specs.Yields.{EndsBy}
 use Rattle.world_machine.proofs.Awaiting.{awaited_by}
 use Rattle.world_machine.proofs.Coming.{last_behind, product_of-injective}
-use Rattle.world_machine.proofs.Pools.{runs_in}
 use Rattle.world_machine.proofs.Resuming.{resumed, yielded}
 use Rattle.world_machine.proofs.world.World.resume.Goals as goal
-
-pub take_state-requires : goal.take_state-requires
-take_state-requires c = runs_in c.args.self.now c.args.pool c.requires.stands
 
 pub resume-requires : goal.resume-requires
 resume-requires c =
