@@ -5,3 +5,4 @@ pub mod Arrays
 pub mod Puts
 pub mod Deciding
 pub mod Pushes
+pub mod Fitting

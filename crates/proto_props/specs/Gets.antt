@@ -11,6 +11,7 @@ use Rattle.world_heap.specs.declared.cell.Body.{Body}
 use Rattle.world_heap.specs.declared.cell.Cell.{Cell}
 use Rattle.world_heap.specs.declared.cell.Cell.TheVariants.{Array, Buffer, View}
 use Rattle.world_heap.specs.Maps.{keys, find}
+use Rattle.world_heap.specs.Over.{ValueOver}
 use Rattle.world_heap.specs.Table.{found_under}
 use Rattle.world_heap.specs.Bodies.{body_of}
 use Rattle.world_heap.specs.BuiltIns.{place_of}
@@ -87,3 +88,10 @@ module _ {L : Type 0} where
     gets (Num n) key = Absent
     gets (Str text) key = text_got text key
     gets (Ref l) key = got_at key (search same cells key (length cells) l)
+
+-- P holds of each location in what reading a property gives.
+abbrev pub GotOver : {L : Type 0} → (L → Type 0) → Got L → Type 0
+GotOver P (Given v) = ValueOver P v
+GotOver P (CallGetter g) = P g
+GotOver P Absent = Unit {0}
+GotOver P Refused = Unit {0}

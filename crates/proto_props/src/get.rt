@@ -1,8 +1,9 @@
 //! Reading a property (ECMA-262, 10.1.8, 10.4.2, 10.4.3 and 10.4.5).
-ghost use Rattle.std.specs.Prelude.{◌≡◌, ◌+◌, Some, IfOk, slice_get, nat_eq};
-ghost use Rattle.world_heap.specs.Over.{ValueOver};
-ghost use Rattle.world_heap.specs.Heaps.{IsCell, Fits};
-ghost use Rattle.proto_props.specs.Gets.{byte_at, got_of, own_property, got_at, gets, string_got, text_got, text_unit};
+ghost use Rattle.std.specs.Prelude.{◌≡◌, ◌+◌, ℕ, List, Some, IfOk, slice_get, nat_eq};
+ghost use Rattle.world_heap.specs.declared.cell.Cell as kept;
+ghost use Rattle.world_heap.specs.Over.{ListOver, PropertyOver, ValueOver};
+ghost use Rattle.world_heap.specs.Heaps.{IsCell, IsNoEnv, Fits};
+ghost use Rattle.proto_props.specs.Gets.{GotOver, byte_at, got_of, own_property, got_at, gets, string_got, text_got, text_unit};
 ghost use Rattle.world_heap.specs.Maps.{keys};
 ghost use Rattle.proto_props.specs.Standing.{ReachStands};
 ghost use Rattle.world_heap.specs.Table.{found_under};
@@ -39,7 +40,8 @@ fn byte_of(heap: &Heap, buffer: Loc, at: usize) -> u8
 
 // What a property gives.
 fn told(alloc: Global, property: &Property) -> Result<Got, AllocError>
-    ensures { IfOk result (λ got. got ≡ got_of (Some property.now)) }
+    ensures is { IfOk result (λ got. got ≡ got_of (Some property.now)) }
+    ensures fits { (cells : List (ℕ × kept.Cell ℕ)) → PropertyOver (IsNoEnv nat_eq cells) property.now → IfOk result (λ got. GotOver (IsNoEnv nat_eq cells) got) }
 {
     match property {
         Property::Data { value, .. } => Ok(Got::Value(value.copy(alloc)?)),
@@ -52,7 +54,8 @@ fn told(alloc: Global, property: &Property) -> Result<Got, AllocError>
 
 // What a property of a body gives.
 fn body_told(alloc: Global, body: &Body, key: &Units) -> Result<Got, AllocError>
-    ensures { IfOk result (λ got. got ≡ got_of (found_under body.now.properties key.now)) }
+    ensures is { IfOk result (λ got. got ≡ got_of (found_under body.now.properties key.now)) }
+    ensures fits { (cells : List (ℕ × kept.Cell ℕ)) → ListOver (λ m. PropertyOver (IsNoEnv nat_eq cells) m.1) body.now.properties → IfOk result (λ got. GotOver (IsNoEnv nat_eq cells) got) }
 {
     match body.properties.get(key) {
         Some(property) => told(alloc, property),
@@ -63,7 +66,8 @@ fn body_told(alloc: Global, body: &Body, key: &Units) -> Result<Got, AllocError>
 // What an own property of a cell gives.
 fn own_told(alloc: Global, heap: &Heap, cell: &Cell, key: &Units) -> Result<Got, AllocError>
     requires { Fits nat_eq heap.now.cells cell.now }
-    ensures { IfOk result (λ got. got ≡ got_of (own_property nat_eq heap.now.cells cell.now key.now)) }
+    ensures is { IfOk result (λ got. got ≡ got_of (own_property nat_eq heap.now.cells cell.now key.now)) }
+    ensures fits { IfOk result (λ got. GotOver (IsNoEnv nat_eq heap.now.cells) got) }
 {
     match cell {
         Cell::Array { items, .. } => {
@@ -103,7 +107,8 @@ fn own_told(alloc: Global, heap: &Heap, cell: &Cell, key: &Units) -> Result<Got,
 // What the property gives that a search has found.
 fn reached_told(alloc: Global, heap: &Heap, reach: Reach, key: &Units) -> Result<Got, AllocError>
     requires { ReachStands heap.now.cells reach }
-    ensures { IfOk result (λ got. got ≡ got_at nat_eq heap.now.cells key.now reach) }
+    ensures is { IfOk result (λ got. got ≡ got_at nat_eq heap.now.cells key.now reach) }
+    ensures fits { IfOk result (λ got. GotOver (IsNoEnv nat_eq heap.now.cells) got) }
 {
     match reach {
         Reach::Has(at) => own_told(alloc, heap, heap.cell(at), key),
@@ -130,7 +135,8 @@ fn unit_of(alloc: Global, text: &Units, key: &Units) -> Result<Option<Units>, Al
 
 // What a property of the prototype of strings gives.
 fn string_told(alloc: Global, heap: &Heap, key: &Units) -> Result<Got, AllocError>
-    ensures { IfOk result (λ got. got ≡ string_got nat_eq heap.now.cells key.now (slice_get (keys heap.now.cells) 10)) }
+    ensures is { IfOk result (λ got. got ≡ string_got nat_eq heap.now.cells key.now (slice_get (keys heap.now.cells) 10)) }
+    ensures fits { IfOk result (λ got. GotOver (IsNoEnv nat_eq heap.now.cells) got) }
 {
     match heap.built_in(BuiltIn::StringPrototype) {
         Some(proto) => reached_told(alloc, heap, search_from(heap, proto, key), key),
@@ -140,7 +146,8 @@ fn string_told(alloc: Global, heap: &Heap, key: &Units) -> Result<Got, AllocErro
 
 // What a property of a text gives: its length, one of its units, or what its prototype has.
 fn text_told(alloc: Global, heap: &Heap, text: &Units, key: &Units) -> Result<Got, AllocError>
-    ensures { IfOk result (λ got. got ≡ text_got nat_eq heap.now.cells text.now key.now) }
+    ensures is { IfOk result (λ got. got ≡ text_got nat_eq heap.now.cells text.now key.now) }
+    ensures fits { IfOk result (λ got. GotOver (IsNoEnv nat_eq heap.now.cells) got) }
 {
     if names_length(key) {
         return Ok(Got::Value(Value::Num(text.len() as i64)));
@@ -154,10 +161,12 @@ fn text_told(alloc: Global, heap: &Heap, text: &Units, key: &Units) -> Result<Go
 /// What reading a property of a value gives. The value's location stands.
 ///
 /// It is refused exactly where the value is undefined or null. Numbers, booleans and symbols have no properties; a text
-/// has `length`, its units, and what the prototype of strings has.
+/// has `length`, its units, and what the prototype of strings has. What it gives may stand in a cell of the heap: it holds
+/// no environment, and its numbers are in range.
 pub fn get_step(alloc: Global, heap: &Heap, of: &Value, key: &Units) -> Result<Got, AllocError>
     requires { ValueOver (IsCell nat_eq heap.now.cells) of.now }
-    ensures { IfOk result (λ got. got ≡ gets nat_eq heap.now.cells of.now key.now) }
+    ensures is { IfOk result (λ got. got ≡ gets nat_eq heap.now.cells of.now key.now) }
+    ensures fits { IfOk result (λ got. GotOver (IsNoEnv nat_eq heap.now.cells) got) }
 {
     match of {
         Value::Undefined => Ok(Got::Refused),
