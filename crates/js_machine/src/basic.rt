@@ -20,6 +20,7 @@ use world_log::{Product, Stop};
 pub fn discard<T: Drop>(_value: T) {}
 
 /// Ends a row without a value, as that of a statement (ECMA-262, 14.5.1).
+#[inline(always)]
 pub fn done(state: &mut State) -> Result<Next, StepFault>
     ensures does { (nodes : List kind.Node) → IfOk result (λ next. Does nodes 6 done state.old state.new next) }
     ensures closed { (nodes : List kind.Node) → IsClosed nodes state.old → Lasts nodes state.old state.new result }
@@ -28,6 +29,7 @@ pub fn done(state: &mut State) -> Result<Next, StepFault>
 }
 
 /// A world stops, for good.
+#[inline(always)]
 pub fn stopped(stop: Stop) -> Next
     ensures { result ≡ Next.Made (Product.Stopped stop) }
 {
@@ -36,6 +38,7 @@ pub fn stopped(stop: Stop) -> Next
 
 impl State {
     /// Ends a row with an outcome.
+    #[inline(always)]
     #[tactic(auto, using(crate::proofs::Closing::closed_control))]
     pub fn give(&mut self, outcome: Outcome) -> Result<Next, StepFault>
         ensures few { (nodes : List kind.Node) → IfOk result (λ next. Does nodes 2 (End outcome) self.old self.new next) }
@@ -48,6 +51,7 @@ impl State {
     }
 
     /// What follows a reading is done with the value.
+    #[inline(always)]
     pub fn hand(&mut self, frame: AfterFrame, value: Value) -> Result<Next, StepFault>
         ensures does { (nodes : List kind.Node) → IfOk result (λ next. Does nodes 6 (after_rest nodes frame value) self.old self.new next) }
         ensures closed { (nodes : List kind.Node) → IsClosed nodes self.old → AfterFits nodes self.old.heap.cells frame → ValueFits self.old.heap.cells value → Lasts nodes self.old self.new result }
@@ -58,6 +62,7 @@ impl State {
     }
 
     /// Puts a frame on the stack, where there is one. For want of memory the frame is lost.
+    #[inline(always)]
     pub fn push(&mut self, frame: Option<Frame>) -> Result<(), StepFault>
         ensures frames { OnOk result (self.new.frames.items ≡ self.old.frames.items ++ option_to_list frame) }
         ensures rest { self.new ≡ record self.old { frames = self.new.frames } }
@@ -73,6 +78,7 @@ impl State {
     }
 
     /// Says what is next.
+    #[inline(always)]
     pub fn turn_to(&mut self, control: Control)
         ensures { self.new ≡ record self.old { control = control } }
     {
@@ -80,6 +86,7 @@ impl State {
     }
 
     // Takes a step and goes on with what is entered, over a frame where there is one.
+    #[inline(always)]
     fn go(&mut self, frame: Option<Frame>, control: Control) -> Result<Next, StepFault>
         ensures does { (nodes : List kind.Node) (n : ℕ) (r : Request ℕ) → 2 ≤ n → IsEntered control r
             → IfOk result (λ next. Does nodes n (Enter r (λ o. under_frame nodes frame o)) self.old self.new next) }
@@ -97,6 +104,7 @@ impl State {
     }
 
     /// Enters a node for a step, and leaves a frame for its outcome.
+    #[inline(always)]
     pub fn enter(&mut self, frame: Frame, node: NodeId, scope: Scope) -> Result<Next, StepFault>
         ensures few { (nodes : List kind.Node) → IfOk result (λ next. Does nodes 2 (Enter (NodeRequest node scope) (λ o. rest nodes frame o)) self.old self.new next) }
         ensures some { (nodes : List kind.Node) → IfOk result (λ next. Does nodes 4 (Enter (NodeRequest node scope) (λ o. rest nodes frame o)) self.old self.new next) }
@@ -108,6 +116,7 @@ impl State {
     }
 
     /// Enters a node for a step, whose outcome is that of the row.
+    #[inline(always)]
     pub fn jump(&mut self, node: NodeId, scope: Scope) -> Result<Next, StepFault>
         ensures few { (nodes : List kind.Node) → IfOk result (λ next. Does nodes 2 (Enter (NodeRequest node scope) (λ o. End o)) self.old self.new next) }
         ensures some { (nodes : List kind.Node) → IfOk result (λ next. Does nodes 4 (Enter (NodeRequest node scope) (λ o. End o)) self.old self.new next) }
@@ -118,6 +127,7 @@ impl State {
     }
 
     /// Enters a pattern for a step, with the value that is bound to it, and leaves a frame.
+    #[inline(always)]
     pub fn bind(
         &mut self,
         frame: Frame,
@@ -176,6 +186,7 @@ impl State {
     }
 
     /// Takes the step of a node whose parts are evaluated by the row around it, or stops.
+    #[inline(always)]
     pub fn step_down(&mut self) -> bool
         ensures { StepsDown self.old self.new result }
     {

@@ -18,6 +18,7 @@ use js_tree::Tree;
 use world_heap::Value;
 
 // A frame that goes on only with a value: any other outcome passes it.
+#[inline(always)]
 fn value_end(
     state: &mut State,
     tree: &Tree,
@@ -36,6 +37,7 @@ fn value_end(
 }
 
 // A frame for what was read: any other outcome passes it.
+#[inline(always)]
 fn after_end(
     state: &mut State,
     tree: &Tree,
@@ -75,6 +77,7 @@ fn leave(state: &mut State, outcome: Outcome) -> Result<Next, StepFault>
 }
 
 /// What is left of a row, with the outcome of the node below it.
+#[inline(always)]
 pub(crate) fn frame_end(
     state: &mut State,
     tree: &Tree,

@@ -15,6 +15,7 @@ use js_tree::Tree;
 use world_log::Product;
 
 // The topmost frame takes an outcome. One without a frame ends all, which can't come from a first state.
+#[inline(always)]
 fn take_up(state: &mut State, tree: &Tree, outcome: Outcome) -> Result<Next, StepFault>
     ensures { IfOk result (λ next. Steps (nodes_of tree.now) (record state.old { control = Control.Give outcome }) state.new next) }
 {

@@ -76,6 +76,7 @@ fn statement_frame(
 }
 
 /// What is left of a row that goes on only with a value, with that value.
+#[inline(always)]
 pub(crate) fn value_frame(
     state: &mut State,
     tree: &Tree,
