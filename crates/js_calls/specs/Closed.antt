@@ -3,8 +3,6 @@ use Rattle.std.specs.Prelude.{ℕ, nat_eq, List}
 use Rattle.world_heap.specs.declared.cell.Cell.{Cell}
 use Rattle.world_heap.specs.Over.{ListOver, OptionOver}
 use Rattle.world_heap.specs.Heaps.{IsCell}
-use Rattle.proto_props.specs.declared.get.Got.{Got}
-use Rattle.proto_props.specs.declared.get.Got.TheVariants as got
 use Rattle.js_machine.specs.Closed.{ValueFits}
 use Rattle.js_calls.specs.declared.callee.Callee.{Callee}
 use Rattle.js_calls.specs.declared.callee.Callee.TheVariants as callees
@@ -47,10 +45,3 @@ module _ (cells : List (ℕ × Cell ℕ)) where
   TargetFits targets.Fixed = Unit {0}
   TargetFits (targets.Global v) = ValueFits cells v
   TargetFits targets.Nowhere = Unit {0}
-
-  -- what reading a property gives (ECMA-262, 10.1.8); what is called may be any value
-  abbrev pub GotFits : Got ℕ → Type 0
-  GotFits (got.Value v) = ValueFits cells v
-  GotFits (got.CallGetter getter) = Unit {0}
-  GotFits got.Absent = Unit {0}
-  GotFits got.Refused = Unit {0}

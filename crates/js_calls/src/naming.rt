@@ -1,5 +1,6 @@
 //! Reading a name: of a binding, or of the global object (ECMA-262, 9.1.1.1.6 and 9.4.2).
-ghost use Rattle.std.specs.Prelude.{◌≡◌, ℕ, List, IfOk, MatchResult};
+ghost use Rattle.std.specs.Prelude.{◌≡◌, ℕ, List, IfOk, MatchResult, nat_eq};
+ghost use Rattle.world_heap.specs.Heaps.{IsCell};
 ghost use Rattle.world_heap.specs.declared.cell.Cell as kept;
 ghost use Rattle.world_heap.specs.Over.{OptionOver};
 ghost use Rattle.js_tree.specs.declared.node.Node as kind;
@@ -7,7 +8,7 @@ ghost use Rattle.js_names.specs.Patterns.{nodes_of};
 ghost use Rattle.js_semantics.specs.Prog.{throw};
 ghost use Rattle.js_semantics.specs.Access.{global_holder, read_name};
 ghost use Rattle.js_semantics.specs.Environments.{binding_of};
-ghost use Rattle.js_machine.specs.Closed.{IsClosed, ValueFits};
+ghost use Rattle.js_machine.specs.Closed.{AfterFits, IsClosed, Lasts, ValueFits};
 ghost use Rattle.js_machine.specs.Does.{Does, world_of};
 ghost use Rattle.js_machine.specs.Frames.{after_rest};
 ghost use Rattle.js_calls.specs.Closed.{NamedFits};
@@ -94,7 +95,8 @@ fn read(
     name: &Units,
     frame: AfterFrame,
 ) -> Result<Next, StepFault>
-    ensures { IfOk result (λ next. Does (nodes_of tree.now) 6 (read_by meant name.now (throw Fault.NotDefined) (λ v. after_rest (nodes_of tree.now) frame v)) state.old state.new next) }
+    ensures does { IfOk result (λ next. Does (nodes_of tree.now) 6 (read_by meant name.now (throw Fault.NotDefined) (λ v. after_rest (nodes_of tree.now) frame v)) state.old state.new next) }
+    ensures closed { IsClosed (nodes_of tree.now) state.old → NamedFits state.old.heap.cells meant → AfterFits (nodes_of tree.now) state.old.heap.cells frame → Lasts (nodes_of tree.now) state.old state.new result }
 {
     match meant {
         Named::Held(value) => state.hand(frame, value),
@@ -123,7 +125,8 @@ pub fn read_name(
     name: &Units,
     frame: AfterFrame,
 ) -> Result<Next, StepFault>
-    ensures { IfOk result (λ next. Does (nodes_of tree.now) 6 (read_name env name.now (throw Fault.NotDefined) (λ v. after_rest (nodes_of tree.now) frame v)) state.old state.new next) }
+    ensures does { IfOk result (λ next. Does (nodes_of tree.now) 6 (read_name env name.now (throw Fault.NotDefined) (λ v. after_rest (nodes_of tree.now) frame v)) state.old state.new next) }
+    ensures closed { IsClosed (nodes_of tree.now) state.old → IsCell nat_eq state.old.heap.cells env → AfterFits (nodes_of tree.now) state.old.heap.cells frame → Lasts (nodes_of tree.now) state.old state.new result }
 {
     let meant = meaning_of(state, env, name)?;
     read(state, tree, meant, name, frame)

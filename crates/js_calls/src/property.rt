@@ -1,16 +1,15 @@
 //! Reading a property of a value, with the getter that it may call (ECMA-262, 7.3.2: Get; 10.1.8).
-ghost use Rattle.std.specs.Prelude.{◌≡◌, true, List, IfOk, is_some, nat_eq};
+ghost use Rattle.std.specs.Prelude.{◌≡◌, true, List, IfOk, MatchResult, is_some, nat_eq};
 ghost use Rattle.js_tree.specs.declared.node.Node as kind;
-ghost use Rattle.world_heap.specs.Heaps.{IsCell};
+ghost use Rattle.world_heap.specs.Heaps.{IsCell, IsNoEnv};
 ghost use Rattle.world_heap.specs.Over.{ValueOver};
-ghost use Rattle.proto_props.specs.Gets.{gets, text_unit};
+ghost use Rattle.proto_props.specs.Gets.{GotOver, gets, text_unit};
 ghost use Rattle.js_names.specs.Patterns.{nodes_of};
 ghost use Rattle.js_semantics.specs.Access.{get, take_up};
 ghost use Rattle.js_semantics.specs.Properties.{made_of};
 ghost use Rattle.js_machine.specs.Closed.{AfterFits, IsClosed, Lasts, ValueFits};
 ghost use Rattle.js_machine.specs.Does.{Does};
 ghost use Rattle.js_machine.specs.Frames.{after_rest};
-ghost use Rattle.js_calls.specs.Closed.{GotFits};
 ghost use Rattle.js_calls.specs.Reading.{made_value};
 
 use crate::calling::call_over;
@@ -40,7 +39,8 @@ fn stands(heap: &Heap, value: &Value) -> bool
 
 // What reading a property of a value gives.
 fn look(alloc: Global, heap: &Heap, of: &Value, key: &Units) -> Result<Got, StepFault>
-    ensures { IfOk result (λ got. got ≡ gets nat_eq heap.now.cells of.now key.now) }
+    ensures is { IfOk result (λ got. got ≡ gets nat_eq heap.now.cells of.now key.now) }
+    ensures closed { ValueFits heap.now.cells of.now → MatchResult result (λ got. GotOver (IsNoEnv nat_eq heap.now.cells) got) (λ fault. fault ≡ StepFault.Memory) }
 {
     if stands(heap, of) {
         Ok(get_step(alloc, heap, of, key)?)
@@ -103,7 +103,7 @@ fn take_up(
 ) -> Result<Next, StepFault>
     ensures does { got ≡ gets nat_eq state.old.heap.cells of key.now
         → IfOk result (λ next. Does (nodes_of tree.now) 6 (take_up got of key.now (λ v. after_rest (nodes_of tree.now) frame v)) state.old state.new next) }
-    ensures closed { IsClosed (nodes_of tree.now) state.old → GotFits state.old.heap.cells got → ValueFits state.old.heap.cells of → AfterFits (nodes_of tree.now) state.old.heap.cells frame
+    ensures closed { IsClosed (nodes_of tree.now) state.old → GotOver (IsNoEnv nat_eq state.old.heap.cells) got → ValueFits state.old.heap.cells of → AfterFits (nodes_of tree.now) state.old.heap.cells frame
         → Lasts (nodes_of tree.now) state.old state.new result }
 {
     match got {
@@ -141,7 +141,8 @@ pub fn get(
     key: &Units,
     frame: AfterFrame,
 ) -> Result<Next, StepFault>
-    ensures { IfOk result (λ next. Does (nodes_of tree.now) 6 (get of key.now (λ v. after_rest (nodes_of tree.now) frame v)) state.old state.new next) }
+    ensures does { IfOk result (λ next. Does (nodes_of tree.now) 6 (get of key.now (λ v. after_rest (nodes_of tree.now) frame v)) state.old state.new next) }
+    ensures closed { IsClosed (nodes_of tree.now) state.old → ValueFits state.old.heap.cells of → AfterFits (nodes_of tree.now) state.old.heap.cells frame → Lasts (nodes_of tree.now) state.old state.new result }
 {
     let got = look(state.alloc, &state.heap, &of, key)?;
     take_up(state, tree, got, of, key, frame)
