@@ -22,6 +22,10 @@ pub data Computed (L : Type 0) : Type 0 where
 abbrev pub is_safe : ℤ → Bool
 is_safe z = int_le (negsuc 9_007_199_254_740_990) z && int_le z (pos 9_007_199_254_740_991)
 
+-- The number of a literal. The text of a script spells no number that it may not have; a node with one counts as 0.
+abbrev pub literal_number : ℤ → ℤ
+literal_number z = if is_safe z then z else pos 0
+
 -- the number modulo 2^32 (ECMA-262, 7.1.7: ToUint32)
 abbrev pub to_unsigned : ℤ → ℕ
 to_unsigned (pos n) = n % 4_294_967_296

@@ -9,6 +9,7 @@ use Rattle.js_semantics.specs.declared.outcome.Outcome.TheVariants.{Break, Conti
 use Rattle.js_semantics.specs.Prog.{Prog, End, Read, Request, Step, Script, Node, Bind, Member, While, DoWhile, For, ForOf, Native, bind, on_value, give, done}
 use Rattle.js_semantics.specs.Expressions.{row_name, row_this, row_template, row_dot, row_index, row_update, row_unary, row_typeof, row_delete, row_binary, row_and, row_or, row_nullish, row_cond, row_seq, row_assign, row_assign_with}
 use Rattle.js_semantics.specs.Objects.{row_array, row_object, row_fun, row_arrow, row_call, row_new, member_of}
+use Rattle.js_semantics.specs.Operators.{literal_number}
 use Rattle.js_semantics.specs.Statements.{pattern_of, script_of, row_declare, row_block, row_expression, row_if, row_while, row_do_while, row_for, row_for_of, row_return, row_throw, row_try, while_turn, do_turn, for_tested, for_turn, of_bound}
 use Rattle.js_semantics.specs.Natives.{native_row, native_at}
 use Rattle.js_semantics.specs.Realm.{module_of}
@@ -38,7 +39,7 @@ module _ {L : Type 0} where
   row_of (Some kinds.This) node scope = row_this scope
   row_of (Some kinds.Null) node scope = give Null
   row_of (Some (kinds.Bool b)) node scope = give (Boolean b)
-  row_of (Some (kinds.Num z)) node scope = give (Num z)
+  row_of (Some (kinds.Num z)) node scope = give (Num (literal_number z))
   row_of (Some (kinds.Str text)) node scope = give (Str text)
   row_of (Some (kinds.Template texts parts)) node scope = row_template texts parts scope
   row_of (Some (kinds.ArrayLit elements)) node scope = row_array elements scope

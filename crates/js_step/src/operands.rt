@@ -1,6 +1,7 @@
 //! Which function makes the row of a literal, a function, a property or a call.
 ghost use Rattle.std.specs.Prelude.{◌≡◌, true, Some, slice_get, IfOk};
 ghost use Rattle.js_names.specs.Patterns.{nodes_of};
+ghost use Rattle.js_semantics.specs.Operators.{literal_number};
 ghost use Rattle.js_semantics.specs.Rows.{row_of};
 ghost use Rattle.js_machine.specs.Does.{Does};
 ghost use Rattle.js_step.specs.Kinds.{is_operand};
@@ -14,12 +15,19 @@ use js_step_object::{row_array, row_arrow, row_fun, row_object};
 use js_tree::{Node, NodeId, Tree};
 use world_heap::Value;
 
-// The value that a number of a script is.
+/// The greatest whole number that a value may be.
+const GREATEST: i64 = 9_007_199_254_740_991;
+
+// The value of a number's literal: one that no script may have, which no text spells, counts as 0.
 fn number_value(number: &i64) -> Value
-    ensures { result ≡ Value.Num number.now }
+    ensures { result ≡ Value.Num (literal_number number.now) }
 {
     let value = *number;
-    Value::Num(value)
+    if -GREATEST <= value && value <= GREATEST {
+        Value::Num(value)
+    } else {
+        Value::Num(0)
+    }
 }
 
 /// The row of a literal, a name, a function, a property or a call (ECMA-262, 13.2, 13.3 and 15).
