@@ -1,6 +1,7 @@
 //! What follows the reading of a property or a name, or the call of a setter.
 ghost use Rattle.std.specs.Prelude.{◌≡◌, ◌+◌, IfOk};
 ghost use Rattle.js_names.specs.Patterns.{nodes_of};
+ghost use Rattle.js_machine.specs.Closed.{AfterFits, IsClosed, Lasts, ValueFits};
 ghost use Rattle.js_machine.specs.Does.{Does, weight};
 ghost use Rattle.js_machine.specs.Frames.{after_rest};
 
@@ -21,7 +22,8 @@ pub(crate) fn after_frame(
     frame: AfterFrame,
     value: Value,
 ) -> Result<Next, StepFault>
-    ensures { IfOk result (λ next. Does (nodes_of tree.now) (weight (Frame.After frame) + 1) (after_rest (nodes_of tree.now) frame value) state.old state.new next) }
+    ensures does { IfOk result (λ next. Does (nodes_of tree.now) (weight (Frame.After frame) + 1) (after_rest (nodes_of tree.now) frame value) state.old state.new next) }
+    ensures closed { IsClosed (nodes_of tree.now) state.old → AfterFits (nodes_of tree.now) state.old.heap.cells frame → ValueFits state.old.heap.cells value → Lasts (nodes_of tree.now) state.old state.new result }
 {
     match frame {
         AfterFrame::Give => after_give(state, value),

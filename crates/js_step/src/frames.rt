@@ -1,8 +1,10 @@
 //! What is left of a row, with the outcome of the node below it.
 ghost use Rattle.std.specs.Prelude.{◌≡◌, ◌+◌, ℕ, List, IfOk};
 ghost use Rattle.js_tree.specs.declared.node.Node as kind;
+ghost use Rattle.world_heap.specs.declared.cell.Cell as kept;
 ghost use Rattle.js_names.specs.Patterns.{nodes_of};
 ghost use Rattle.js_semantics.specs.Access.{given_by};
+ghost use Rattle.js_machine.specs.Closed.{AfterFits, FrameFits, IsClosed, Lasts, OutcomeFits};
 ghost use Rattle.js_machine.specs.Does.{Does, weight};
 ghost use Rattle.js_machine.specs.Frames.{rest};
 
@@ -25,7 +27,8 @@ fn value_end(
     frame: ValueFrame,
     outcome: Outcome,
 ) -> Result<Next, StepFault>
-    ensures { IfOk result (λ next. Does (nodes_of tree.now) 6 (rest (nodes_of tree.now) (Frame.OnValue frame) outcome) state.old state.new next) }
+    ensures does { IfOk result (λ next. Does (nodes_of tree.now) 6 (rest (nodes_of tree.now) (Frame.OnValue frame) outcome) state.old state.new next) }
+    ensures closed { IsClosed (nodes_of tree.now) state.old → FrameFits (nodes_of tree.now) state.old.heap.cells (Frame.OnValue frame) → OutcomeFits (nodes_of tree.now) state.old.heap.cells outcome → Lasts (nodes_of tree.now) state.old state.new result }
 {
     match outcome {
         Outcome::Normal(value) => value_frame(state, tree, frame, value),
@@ -44,7 +47,8 @@ fn after_end(
     frame: AfterFrame,
     outcome: Outcome,
 ) -> Result<Next, StepFault>
-    ensures { IfOk result (λ next. Does (nodes_of tree.now) (weight (Frame.After frame) + 1) (rest (nodes_of tree.now) (Frame.After frame) outcome) state.old state.new next) }
+    ensures does { IfOk result (λ next. Does (nodes_of tree.now) (weight (Frame.After frame) + 1) (rest (nodes_of tree.now) (Frame.After frame) outcome) state.old state.new next) }
+    ensures closed { IsClosed (nodes_of tree.now) state.old → AfterFits (nodes_of tree.now) state.old.heap.cells frame → OutcomeFits (nodes_of tree.now) state.old.heap.cells outcome → Lasts (nodes_of tree.now) state.old state.new result }
 {
     match outcome {
         Outcome::Normal(value) => after_frame(state, tree, frame, value),
@@ -57,7 +61,8 @@ fn after_end(
 
 // What a function gives: the value of its `return`, or of the expression that its body is.
 fn given_by(outcome: Outcome) -> Outcome
-    ensures { result ≡ given_by outcome }
+    ensures is { result ≡ given_by outcome }
+    ensures closed { (nodes : List kind.Node) (cells : List (ℕ × kept.Cell ℕ)) → OutcomeFits nodes cells outcome → OutcomeFits nodes cells result }
 {
     match outcome {
         Outcome::Normal(value) => Outcome::Normal(value),
@@ -70,7 +75,8 @@ fn given_by(outcome: Outcome) -> Outcome
 
 // The end of a call (ECMA-262, 10.2.1), which is active no more.
 fn leave(state: &mut State, outcome: Outcome) -> Result<Next, StepFault>
-    ensures { (nodes : List kind.Node) → IfOk result (λ next. Does nodes 2 (rest nodes Frame.Leave outcome) state.old state.new next) }
+    ensures does { (nodes : List kind.Node) → IfOk result (λ next. Does nodes 2 (rest nodes Frame.Leave outcome) state.old state.new next) }
+    ensures closed { (nodes : List kind.Node) → IsClosed nodes state.old → OutcomeFits nodes state.old.heap.cells outcome → Lasts nodes state.old state.new result }
 {
     state.depth = state.depth.saturating_sub(1);
     state.give(given_by(outcome))
@@ -84,7 +90,8 @@ pub(crate) fn frame_end(
     frame: Frame,
     outcome: Outcome,
 ) -> Result<Next, StepFault>
-    ensures { IfOk result (λ next. Does (nodes_of tree.now) (weight frame + 1) (rest (nodes_of tree.now) frame outcome) state.old state.new next) }
+    ensures does { IfOk result (λ next. Does (nodes_of tree.now) (weight frame + 1) (rest (nodes_of tree.now) frame outcome) state.old state.new next) }
+    ensures closed { IsClosed (nodes_of tree.now) state.old → FrameFits (nodes_of tree.now) state.old.heap.cells frame → OutcomeFits (nodes_of tree.now) state.old.heap.cells outcome → Lasts (nodes_of tree.now) state.old state.new result }
 {
     match frame {
         Frame::OnValue(frame) => value_end(state, tree, frame, outcome),

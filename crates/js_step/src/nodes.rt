@@ -3,6 +3,7 @@ ghost use Rattle.std.specs.Prelude.{◌≡◌, Some, slice_get, IfOk};
 ghost use Rattle.js_names.specs.Patterns.{nodes_of};
 ghost use Rattle.js_semantics.specs.Prog.{Node as NodeRequest};
 ghost use Rattle.js_semantics.specs.Rows.{row, row_of};
+ghost use Rattle.js_machine.specs.Closed.{IsClosed, Lasts, ScopeFits};
 ghost use Rattle.js_machine.specs.Does.{Does};
 
 use crate::operands::row_operand;
@@ -23,7 +24,8 @@ fn row_kind(
     scope: Scope,
 ) -> Result<Next, StepFault>
     requires { slice_get (nodes_of tree.now) id.0 ≡ Some node.now }
-    ensures { IfOk result (λ next. Does (nodes_of tree.now) 6 (row_of (Some node.now) id scope) state.old state.new next) }
+    ensures does { IfOk result (λ next. Does (nodes_of tree.now) 6 (row_of (Some node.now) id scope) state.old state.new next) }
+    ensures closed { IsClosed (nodes_of tree.now) state.old → ScopeFits (nodes_of tree.now) state.old.heap.cells scope → Lasts (nodes_of tree.now) state.old state.new result }
 {
     match node {
         Node::Block(_) => row_block(state, tree, id, scope),
@@ -84,7 +86,8 @@ pub(crate) fn row_node(
     id: NodeId,
     scope: Scope,
 ) -> Result<Next, StepFault>
-    ensures { IfOk result (λ next. Does (nodes_of tree.now) 6 (row (NodeRequest id scope)) state.old state.new next) }
+    ensures does { IfOk result (λ next. Does (nodes_of tree.now) 6 (row (NodeRequest id scope)) state.old state.new next) }
+    ensures closed { IsClosed (nodes_of tree.now) state.old → ScopeFits (nodes_of tree.now) state.old.heap.cells scope → Lasts (nodes_of tree.now) state.old state.new result }
 {
     match node_at(tree, id) {
         Some(node) => row_kind(state, tree, node, id, scope),

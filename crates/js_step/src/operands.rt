@@ -3,6 +3,7 @@ ghost use Rattle.std.specs.Prelude.{◌≡◌, true, Some, slice_get, IfOk};
 ghost use Rattle.js_names.specs.Patterns.{nodes_of};
 ghost use Rattle.js_semantics.specs.Operators.{literal_number};
 ghost use Rattle.js_semantics.specs.Rows.{row_of};
+ghost use Rattle.js_machine.specs.Closed.{IsClosed, Lasts, ScopeFits};
 ghost use Rattle.js_machine.specs.Does.{Does};
 ghost use Rattle.js_step.specs.Kinds.{is_operand};
 
@@ -41,7 +42,8 @@ pub(crate) fn row_operand(
 ) -> Result<Next, StepFault>
     requires stands { slice_get (nodes_of tree.now) id.0 ≡ Some node.now }
     requires kind { is_operand node.now ≡ true }
-    ensures { IfOk result (λ next. Does (nodes_of tree.now) 6 (row_of (Some node.now) id scope) state.old state.new next) }
+    ensures does { IfOk result (λ next. Does (nodes_of tree.now) 6 (row_of (Some node.now) id scope) state.old state.new next) }
+    ensures closed { IsClosed (nodes_of tree.now) state.old → ScopeFits (nodes_of tree.now) state.old.heap.cells scope → Lasts (nodes_of tree.now) state.old state.new result }
 {
     match node {
         Node::Name(_) => row_name(state, tree, id, scope),

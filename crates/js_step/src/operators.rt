@@ -2,6 +2,7 @@
 ghost use Rattle.std.specs.Prelude.{◌≡◌, true, Some, IfOk};
 ghost use Rattle.js_names.specs.Patterns.{nodes_of};
 ghost use Rattle.js_semantics.specs.Rows.{row_of};
+ghost use Rattle.js_machine.specs.Closed.{IsClosed, Lasts, ScopeFits};
 ghost use Rattle.js_machine.specs.Does.{Does};
 ghost use Rattle.js_step.specs.Kinds.{is_operator};
 
@@ -23,7 +24,8 @@ pub(crate) fn row_operator(
     scope: Scope,
 ) -> Result<Next, StepFault>
     requires { is_operator node.now ≡ true }
-    ensures { IfOk result (λ next. Does (nodes_of tree.now) 6 (row_of (Some node.now) id scope) state.old state.new next) }
+    ensures does { IfOk result (λ next. Does (nodes_of tree.now) 6 (row_of (Some node.now) id scope) state.old state.new next) }
+    ensures closed { IsClosed (nodes_of tree.now) state.old → ScopeFits (nodes_of tree.now) state.old.heap.cells scope → Lasts (nodes_of tree.now) state.old state.new result }
 {
     match node {
         Node::Seq { first, second } => row_seq(state, *first, *second, scope),

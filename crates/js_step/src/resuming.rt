@@ -1,6 +1,7 @@
 //! What a delivery comes to, up to the next wait.
-ghost use Rattle.std.specs.Prelude.{◌≡◌, ◌++◌, true, IfOk, OnOk};
+ghost use Rattle.std.specs.Prelude.{◌≡◌, ◌++◌, true, IfErr, IfOk, OnOk};
 ghost use Rattle.js_names.specs.Patterns.{nodes_of};
+ghost use Rattle.js_machine.specs.Closed.{IsClosed, Lasts};
 ghost use Rattle.js_machine.specs.Does.{does_await, made};
 ghost use Rattle.js_step.specs.Resuming.{BeginsWith, MakesNext, ResumesBehind};
 
@@ -12,7 +13,8 @@ use world_log::{Delivery, Product};
 
 // Puts what a step has made behind the products. For want of memory it is lost, and they stay.
 fn put(out: &mut Vec<Product>, next: Next) -> Result<(), StepFault>
-    ensures { OnOk result (out.new.items ≡ out.old.items ++ made next) }
+    ensures does { OnOk result (out.new.items ≡ out.old.items ++ made next) }
+    ensures memory { IfErr result (λ fault. fault ≡ StepFault.Memory) }
 {
     match next {
         Next::Go => Ok(()),
@@ -27,10 +29,11 @@ fn put(out: &mut Vec<Product>, next: Next) -> Result<(), StepFault>
 /// Where a product is made less work is left than before. The cost is that of the turns.
 ///
 /// # Errors
-/// `Memory` where there is none; `Dangling` where a location was met that stands nowhere. The state is then that of no
-/// world any more.
+/// `Memory` where there is none; `Dangling` where a location was met that stands nowhere, which is never from a closed
+/// state. The state is then that of no world any more.
 pub fn advance(state: &mut State, tree: &Tree) -> Result<Option<Product>, StepFault>
-    ensures { IfOk result (λ made. MakesNext (nodes_of tree.now) state.old made state.new) }
+    ensures does { IfOk result (λ made. MakesNext (nodes_of tree.now) state.old made state.new) }
+    ensures closed { IsClosed (nodes_of tree.now) state.old → Lasts (nodes_of tree.now) state.old state.new result }
 {
     'silent: while state.is_running() {
         match step(state, tree)? {
@@ -47,8 +50,8 @@ pub fn advance(state: &mut State, tree: &Tree) -> Result<Option<Product>, StepFa
 /// Condition: the delivery may come.
 ///
 /// # Errors
-/// `Memory` where there is none; `Dangling` where a location was met that stands nowhere. The state is then that of no
-/// world any more.
+/// `Memory` where there is none; `Dangling` where a location was met that stands nowhere, which is never from a closed
+/// state. The state is then that of no world any more.
 pub fn begin(
     state: &mut State,
     tree: &Tree,
@@ -56,7 +59,8 @@ pub fn begin(
     delivery: Delivery,
 ) -> Result<Option<Product>, StepFault>
     requires { does_await state.old delivery ≡ true }
-    ensures { IfOk result (λ made. BeginsWith (nodes_of tree.now) (record { fresh = fresh; what = delivery }) state.old made state.new) }
+    ensures does { IfOk result (λ made. BeginsWith (nodes_of tree.now) (record { fresh = fresh; what = delivery }) state.old made state.new) }
+    ensures closed { IsClosed (nodes_of tree.now) state.old → Lasts (nodes_of tree.now) state.old state.new result }
 {
     match state.receive(tree, fresh, delivery)? {
         Next::Go => advance(state, tree),
@@ -71,8 +75,8 @@ pub fn begin(
 /// Condition: the delivery may come.
 ///
 /// # Errors
-/// `Memory` where there is none; `Dangling` where a location was met that stands nowhere. The state is then that of no
-/// world any more.
+/// `Memory` where there is none; `Dangling` where a location was met that stands nowhere, which is never from a closed
+/// state. The state is then that of no world any more.
 pub fn resume(
     state: &mut State,
     tree: &Tree,
@@ -81,7 +85,8 @@ pub fn resume(
     out: &mut Vec<Product>,
 ) -> Result<(), StepFault>
     requires { does_await state.old delivery ≡ true }
-    ensures { OnOk result (ResumesBehind (nodes_of tree.now) (record { fresh = fresh; what = delivery }) state.old out.old.items out.new.items state.new) }
+    ensures does { OnOk result (ResumesBehind (nodes_of tree.now) (record { fresh = fresh; what = delivery }) state.old out.old.items out.new.items state.new) }
+    ensures closed { IsClosed (nodes_of tree.now) state.old → Lasts (nodes_of tree.now) state.old state.new result }
 {
     let next = state.receive(tree, fresh, delivery)?;
     put(out, next)?;

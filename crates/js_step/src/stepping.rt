@@ -1,6 +1,7 @@
 //! One turn of the machine, from what is next.
 ghost use Rattle.std.specs.Prelude.{◌≡◌, true, IfOk};
 ghost use Rattle.js_names.specs.Patterns.{nodes_of};
+ghost use Rattle.js_machine.specs.Closed.{GoesOn, IsClosed, Lasts, OutcomeFits};
 ghost use Rattle.js_machine.specs.Does.{Steps, is_running};
 
 use crate::frames::frame_end;
@@ -17,7 +18,8 @@ use world_log::Product;
 // The topmost frame takes an outcome. One without a frame ends all, which can't come from a first state.
 #[inline(always)]
 fn take_up(state: &mut State, tree: &Tree, outcome: Outcome) -> Result<Next, StepFault>
-    ensures { IfOk result (λ next. Steps (nodes_of tree.now) (record state.old { control = Control.Give outcome }) state.new next) }
+    ensures does { IfOk result (λ next. Steps (nodes_of tree.now) (record state.old { control = Control.Give outcome }) state.new next) }
+    ensures closed { IsClosed (nodes_of tree.now) state.old → OutcomeFits (nodes_of tree.now) state.old.heap.cells outcome → Lasts (nodes_of tree.now) state.old state.new result }
 {
     match state.frames.pop() {
         Some(frame) => frame_end(state, tree, frame, outcome),
@@ -30,7 +32,8 @@ fn take_up(state: &mut State, tree: &Tree, outcome: Outcome) -> Result<Next, Ste
 
 // The task is done: the world tells that no job waits, and waits for a delivery.
 fn rest(state: &mut State, mode: Mode) -> Next
-    ensures { (nodes : _) → Steps nodes (record state.old { control = Control.AtRest mode }) state.new result }
+    ensures does { (nodes : _) → Steps nodes (record state.old { control = Control.AtRest mode }) state.new result }
+    ensures closed { (nodes : _) → IsClosed nodes state.old → GoesOn nodes state.old state.new }
 {
     state.turn_to(Control::Wait(mode));
     Next::Made(Product::Rest(0))
@@ -43,11 +46,12 @@ fn rest(state: &mut State, mode: Mode) -> Next
 /// Condition: the machine is running.
 ///
 /// # Errors
-/// `Memory` where there is none; `Dangling` where a location was met that stands nowhere. The state is then that of no
-/// world any more.
+/// `Memory` where there is none; `Dangling` where a location was met that stands nowhere, which is never from a closed
+/// state. The state is then that of no world any more.
 pub fn step(state: &mut State, tree: &Tree) -> Result<Next, StepFault>
     requires { is_running state.old.control ≡ true }
-    ensures { IfOk result (λ next. Steps (nodes_of tree.now) state.old state.new next) }
+    ensures does { IfOk result (λ next. Steps (nodes_of tree.now) state.old state.new next) }
+    ensures closed { IsClosed (nodes_of tree.now) state.old → Lasts (nodes_of tree.now) state.old state.new result }
 {
     let control = std::mem::replace(&mut state.control, Control::Stop);
     match control {

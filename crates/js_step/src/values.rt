@@ -1,6 +1,8 @@
 //! What is left of a row that goes on only with a value.
 ghost use Rattle.std.specs.Prelude.{◌≡◌, IfOk};
 ghost use Rattle.js_names.specs.Patterns.{nodes_of};
+ghost use Rattle.js_machine.specs.declared.frame.Frame.TheVariants as frames;
+ghost use Rattle.js_machine.specs.Closed.{FrameFits, IsClosed, Lasts, ValueFits};
 ghost use Rattle.js_machine.specs.Does.{Does};
 ghost use Rattle.js_machine.specs.Frames.{literal_rest, statement_rest, value_rest};
 
@@ -22,7 +24,8 @@ fn literal_end(
     frame: LiteralFrame,
     value: Value,
 ) -> Result<Next, StepFault>
-    ensures { IfOk result (λ next. Does (nodes_of tree.now) 6 (literal_rest (nodes_of tree.now) frame value) state.old state.new next) }
+    ensures does { IfOk result (λ next. Does (nodes_of tree.now) 6 (literal_rest (nodes_of tree.now) frame value) state.old state.new next) }
+    ensures closed { IsClosed (nodes_of tree.now) state.old → FrameFits (nodes_of tree.now) state.old.heap.cells (frames.OnValue (ValueFrame.Literal frame)) → ValueFits state.old.heap.cells value → Lasts (nodes_of tree.now) state.old state.new result }
 {
     match frame {
         LiteralFrame::Element {
@@ -62,7 +65,8 @@ fn statement_frame(
     frame: StatementFrame,
     value: Value,
 ) -> Result<Next, StepFault>
-    ensures { IfOk result (λ next. Does (nodes_of tree.now) 6 (statement_rest (nodes_of tree.now) frame value) state.old state.new next) }
+    ensures does { IfOk result (λ next. Does (nodes_of tree.now) 6 (statement_rest (nodes_of tree.now) frame value) state.old state.new next) }
+    ensures closed { IsClosed (nodes_of tree.now) state.old → FrameFits (nodes_of tree.now) state.old.heap.cells (frames.OnValue (ValueFrame.Statement frame)) → ValueFits state.old.heap.cells value → Lasts (nodes_of tree.now) state.old state.new result }
 {
     match frame {
         StatementFrame::ForOfList {
@@ -83,7 +87,8 @@ pub(crate) fn value_frame(
     frame: ValueFrame,
     value: Value,
 ) -> Result<Next, StepFault>
-    ensures { IfOk result (λ next. Does (nodes_of tree.now) 6 (value_rest (nodes_of tree.now) frame value) state.old state.new next) }
+    ensures does { IfOk result (λ next. Does (nodes_of tree.now) 6 (value_rest (nodes_of tree.now) frame value) state.old state.new next) }
+    ensures closed { IsClosed (nodes_of tree.now) state.old → FrameFits (nodes_of tree.now) state.old.heap.cells (frames.OnValue frame) → ValueFits state.old.heap.cells value → Lasts (nodes_of tree.now) state.old state.new result }
 {
     match frame {
         ValueFrame::Operand(frame) => operand(state, tree, frame, value),
