@@ -1,11 +1,13 @@
 //! Calls of built-in functions.
 ghost use Rattle.std.specs.Prelude.{List, IfOk, Some};
 ghost use Rattle.js_tree.specs.declared.node.Node as kind;
+ghost use Rattle.world_heap.specs.Over.{ListOver};
 ghost use Rattle.js_semantics.specs.Natives.{native_row};
 ghost use Rattle.js_semantics.specs.Prog.{Native as NativeRequest};
 ghost use Rattle.js_semantics.specs.Realm.{module_of};
 ghost use Rattle.js_semantics.specs.Rows.{row};
 ghost use Rattle.js_machine.specs.Does.{Does};
+ghost use Rattle.js_machine.specs.Closed.{IsClosed, Lasts, ValueFits};
 
 use crate::console::row_console;
 use crate::errors::row_error;
@@ -16,7 +18,8 @@ use world_heap::Value;
 
 // A call of this built-in function.
 fn called(state: &mut State, function: Native, arguments: &[Value]) -> Result<Next, StepFault>
-    ensures { (nodes : List kind.Node) (receiver : _) → IfOk result (λ next. Does nodes 6 (native_row module_of (Some function) receiver arguments.now) state.old state.new next) }
+    ensures does { (nodes : List kind.Node) (receiver : _) → IfOk result (λ next. Does nodes 6 (native_row module_of (Some function) receiver arguments.now) state.old state.new next) }
+    ensures closed { (nodes : List kind.Node) → IsClosed nodes state.old → Lasts nodes state.old state.new result }
 {
     match function {
         Native::Console(level) => row_console(state, level, arguments),
@@ -37,7 +40,8 @@ pub fn native(
     receiver: &Value,
     arguments: &[Value],
 ) -> Result<Next, StepFault>
-    ensures { (nodes : List kind.Node) → IfOk result (λ next. Does nodes 6 (row (NativeRequest id receiver.now arguments.now)) state.old state.new next) }
+    ensures does { (nodes : List kind.Node) → IfOk result (λ next. Does nodes 6 (row (NativeRequest id receiver.now arguments.now)) state.old state.new next) }
+    ensures closed { (nodes : List kind.Node) → IsClosed nodes state.old → ValueFits state.old.heap.cells receiver.now → ListOver (ValueFits state.old.heap.cells) arguments.now → Lasts nodes state.old state.new result }
 {
     match Native::of(id) {
         Some(function) => called(state, function, arguments),

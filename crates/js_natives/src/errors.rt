@@ -1,8 +1,9 @@
 //! The functions of errors (ECMA-262, 20.5.1 and 20.5.6.1).
-ghost use Rattle.std.specs.Prelude.{◌≡◌, ℕ, List, IfOk, Some};
+ghost use Rattle.std.specs.Prelude.{◌≡◌, ℕ, List, IfOk, MatchResult, Some};
 ghost use Rattle.js_tree.specs.declared.node.Node as kind;
 ghost use Rattle.js_semantics.specs.Natives.{error_of, row_error};
 ghost use Rattle.js_machine.specs.Does.{Does};
+ghost use Rattle.js_machine.specs.Closed.{IsClosed, Lasts};
 ghost use Rattle.js_natives.specs.Arguments.{message_given, message_value};
 
 use js_machine::{Next, State, stopped};
@@ -14,7 +15,7 @@ use world_heap::Value;
 
 // The message that a value is for an error: none, a string, or `None` for a value of a wrong type.
 fn message_value(alloc: Global, value: &Value) -> Result<Option<Option<Units>>, StepFault>
-    ensures { IfOk result (λ message. message ≡ message_value value.now) }
+    ensures { MatchResult result (λ message. message ≡ message_value value.now) (λ fault. fault ≡ StepFault.Memory) }
 {
     match value {
         Value::Undefined => Ok(Some(None)),
@@ -25,7 +26,7 @@ fn message_value(alloc: Global, value: &Value) -> Result<Option<Option<Units>>, 
 
 // The message that the arguments give.
 fn message_given(alloc: Global, arguments: &[Value]) -> Result<Option<Option<Units>>, StepFault>
-    ensures { IfOk result (λ message. message ≡ message_given arguments.now) }
+    ensures { MatchResult result (λ message. message ≡ message_given arguments.now) (λ fault. fault ≡ StepFault.Memory) }
 {
     match arguments.split_first() {
         Some((value, _)) => message_value(alloc, value),
@@ -35,7 +36,8 @@ fn message_given(alloc: Global, arguments: &[Value]) -> Result<Option<Option<Uni
 
 // Makes an error and gives it.
 fn error_of(state: &mut State, error: ErrorKind, message: Option<Units>) -> Result<Next, StepFault>
-    ensures { (nodes : List kind.Node) → IfOk result (λ next. Does nodes 6 (error_of error message) state.old state.new next) }
+    ensures does { (nodes : List kind.Node) → IfOk result (λ next. Does nodes 6 (error_of error message) state.old state.new next) }
+    ensures closed { (nodes : List kind.Node) → IsClosed nodes state.old → Lasts nodes state.old state.new result }
 {
     match state.make_error(error, message)? {
         Ok(loc) => state.give(Outcome::Normal(Value::Ref(loc))),
@@ -53,7 +55,8 @@ pub fn row_error(
     error: ErrorKind,
     arguments: &[Value],
 ) -> Result<Next, StepFault>
-    ensures { (nodes : List kind.Node) → IfOk result (λ next. Does nodes 6 (row_error error arguments.now) state.old state.new next) }
+    ensures does { (nodes : List kind.Node) → IfOk result (λ next. Does nodes 6 (row_error error arguments.now) state.old state.new next) }
+    ensures closed { (nodes : List kind.Node) → IsClosed nodes state.old → Lasts nodes state.old state.new result }
 {
     let given = message_given(state.alloc, arguments)?;
     match given {

@@ -1,11 +1,14 @@
 //! `require`, which gives the module with the calls of Electron.
-ghost use Rattle.std.specs.Prelude.{◌≡◌, List, IfOk, MatchOption, None, Some, codes};
+ghost use Rattle.std.specs.Prelude.{◌≡◌, List, IfOk, MatchOption, MatchResult, None, Some, codes, nat_eq, true};
 ghost use Rattle.js_tree.specs.declared.node.Node as kind;
+ghost use Rattle.world_heap.specs.Heaps.{IsNoEnv};
+ghost use Rattle.world_heap.specs.Over.{OptionOver};
 ghost use Rattle.js_semantics.specs.Natives.{is_module, missing_module, row_require, throw_message};
 ghost use Rattle.js_semantics.specs.Prog.{End, make_error};
 ghost use Rattle.js_semantics.specs.Properties.{same_text};
 ghost use Rattle.js_semantics.specs.Realm.{module_of};
 ghost use Rattle.js_machine.specs.Does.{Does};
+ghost use Rattle.js_machine.specs.Closed.{IsClosed, Lasts};
 ghost use Rattle.js_natives.specs.Arguments.{by_name, module_in, name_given, name_value, named};
 
 use js_machine::{Next, State, stopped};
@@ -93,7 +96,7 @@ fn name_given(arguments: &[Value]) -> Option<&Units>
 
 // The units of the message about a module that isn't there.
 fn missing_units(alloc: Global, name: &Units) -> Result<Vec<u16>, StepFault>
-    ensures { IfOk result (λ list. list.items ≡ missing_module name.now) }
+    ensures { MatchResult result (λ list. list.items ≡ missing_module name.now) (λ fault. fault ≡ StepFault.Memory) }
 {
     let mut list = Vec::from_slice(alloc, MISSING.as_slice())?;
     list.extend_from_slice(name.as_slice())?;
@@ -104,7 +107,7 @@ fn missing_units(alloc: Global, name: &Units) -> Result<Vec<u16>, StepFault>
 
 // The message about a module that isn't there.
 fn missing_module(alloc: Global, name: &Units) -> Result<Units, StepFault>
-    ensures { IfOk result (λ message. message ≡ missing_module name.now) }
+    ensures { MatchResult result (λ message. message ≡ missing_module name.now) (λ fault. fault ≡ StepFault.Memory) }
 {
     let list = missing_units(alloc, name)?;
     match Units::of_units(alloc, list.as_slice()) {
@@ -115,7 +118,8 @@ fn missing_module(alloc: Global, name: &Units) -> Result<Units, StepFault>
 
 // Makes an error with a message and throws it.
 fn thrown(state: &mut State, message: Units) -> Result<Next, StepFault>
-    ensures { (nodes : List kind.Node) → IfOk result (λ next. Does nodes 6 (make_error ErrorKind.Error (Some message) (λ loc. End (Outcome.Thrown (Value.Ref loc)))) state.old state.new next) }
+    ensures does { (nodes : List kind.Node) → IfOk result (λ next. Does nodes 6 (make_error ErrorKind.Error (Some message) (λ loc. End (Outcome.Thrown (Value.Ref loc)))) state.old state.new next) }
+    ensures closed { (nodes : List kind.Node) → IsClosed nodes state.old → Lasts nodes state.old state.new result }
 {
     match state.make_error(ErrorKind::Error, Some(message))? {
         Ok(loc) => state.give(Outcome::Thrown(Value::Ref(loc))),
@@ -125,7 +129,8 @@ fn thrown(state: &mut State, message: Units) -> Result<Next, StepFault>
 
 // Counts the units of a message, and throws an error with it.
 fn throw_message(state: &mut State, message: Units) -> Result<Next, StepFault>
-    ensures { (nodes : List kind.Node) → IfOk result (λ next. Does nodes 6 (throw_message message) state.old state.new next) }
+    ensures does { (nodes : List kind.Node) → IfOk result (λ next. Does nodes 6 (throw_message message) state.old state.new next) }
+    ensures closed { (nodes : List kind.Node) → IsClosed nodes state.old → Lasts nodes state.old state.new result }
 {
     if state.count_units(message.len()) {
         thrown(state, message)
@@ -136,7 +141,8 @@ fn throw_message(state: &mut State, message: Units) -> Result<Next, StepFault>
 
 // Throws an error that tells the name of a module that isn't there.
 fn missing(state: &mut State, name: &Units) -> Result<Next, StepFault>
-    ensures { (nodes : List kind.Node) → IfOk result (λ next. Does nodes 6 (throw_message (missing_module name.now)) state.old state.new next) }
+    ensures does { (nodes : List kind.Node) → IfOk result (λ next. Does nodes 6 (throw_message (missing_module name.now)) state.old state.new next) }
+    ensures closed { (nodes : List kind.Node) → IsClosed nodes state.old → Lasts nodes state.old state.new result }
 {
     match missing_module(state.alloc, name) {
         Ok(message) => throw_message(state, message),
@@ -146,7 +152,8 @@ fn missing(state: &mut State, name: &Units) -> Result<Next, StepFault>
 
 // Gives the module that stands at a location where it has this name, or throws.
 fn at_location(state: &mut State, loc: Loc, name: &Units) -> Result<Next, StepFault>
-    ensures { (nodes : List kind.Node) → IfOk result (λ next. Does nodes 6 (named state.old.kind (Some loc) name.now) state.old state.new next) }
+    ensures does { (nodes : List kind.Node) → IfOk result (λ next. Does nodes 6 (named state.old.kind (Some loc) name.now) state.old state.new next) }
+    ensures closed { (nodes : List kind.Node) → IsClosed nodes state.old → (is_module state.old.kind name.now ≡ true → IsNoEnv nat_eq state.old.heap.cells loc) → Lasts nodes state.old state.new result }
 {
     if is_module(state.kind, name) {
         state.give(Outcome::Normal(Value::Ref(loc)))
@@ -157,7 +164,8 @@ fn at_location(state: &mut State, loc: Loc, name: &Units) -> Result<Next, StepFa
 
 // Gives the module where it stands and has this name, or throws.
 fn require_named(state: &mut State, electron: Option<Loc>, name: &Units) -> Result<Next, StepFault>
-    ensures { (nodes : List kind.Node) → IfOk result (λ next. Does nodes 6 (named state.old.kind electron name.now) state.old state.new next) }
+    ensures does { (nodes : List kind.Node) → IfOk result (λ next. Does nodes 6 (named state.old.kind electron name.now) state.old state.new next) }
+    ensures closed { (nodes : List kind.Node) → IsClosed nodes state.old → (is_module state.old.kind name.now ≡ true → OptionOver (IsNoEnv nat_eq state.old.heap.cells) electron) → Lasts nodes state.old state.new result }
 {
     match electron {
         Some(loc) => at_location(state, loc, name),
@@ -174,7 +182,8 @@ fn module_in(heap: &Heap) -> Option<Loc>
 
 // Gives the module of the world where it has this name, or throws.
 fn require_module(state: &mut State, name: &Units) -> Result<Next, StepFault>
-    ensures { (nodes : List kind.Node) → IfOk result (λ next. Does nodes 6 (by_name (Some name.now)) state.old state.new next) }
+    ensures does { (nodes : List kind.Node) → IfOk result (λ next. Does nodes 6 (by_name (Some name.now)) state.old state.new next) }
+    ensures closed { (nodes : List kind.Node) → IsClosed nodes state.old → Lasts nodes state.old state.new result }
 {
     let electron = module_in(&state.heap);
     require_named(state, electron, name)
@@ -187,7 +196,8 @@ fn require_module(state: &mut State, name: &Units) -> Result<Next, StepFault>
 /// # Errors
 /// `Memory` where there is none; `Dangling` where the prototype of errors stands nowhere.
 pub fn row_require(state: &mut State, arguments: &[Value]) -> Result<Next, StepFault>
-    ensures { (nodes : List kind.Node) → IfOk result (λ next. Does nodes 6 (row_require module_of arguments.now) state.old state.new next) }
+    ensures does { (nodes : List kind.Node) → IfOk result (λ next. Does nodes 6 (row_require module_of arguments.now) state.old state.new next) }
+    ensures closed { (nodes : List kind.Node) → IsClosed nodes state.old → Lasts nodes state.old state.new result }
 {
     match name_given(arguments) {
         Some(name) => require_module(state, name),

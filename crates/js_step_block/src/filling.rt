@@ -1,11 +1,13 @@
 //! The functions that the items of a scope declare (ECMA-262, 14.2.3: BlockDeclarationInstantiation).
-ghost use Rattle.std.specs.Prelude.{List, IfOk, Some, slice_get};
+ghost use Rattle.std.specs.Prelude.{List, IfOk, Some, nat_eq, slice_get};
 ghost use Rattle.js_tree.specs.declared.node.Node as kind;
+ghost use Rattle.world_heap.specs.Heaps.{IsCell};
 ghost use Rattle.js_names.specs.Patterns.{nodes_of};
 ghost use Rattle.js_semantics.specs.Environments.{bind_in};
 ghost use Rattle.js_semantics.specs.Objects.{make_function};
 ghost use Rattle.js_semantics.specs.Prog.{change};
 ghost use Rattle.js_semantics.specs.Statements.{fill_function, fill_functions};
+ghost use Rattle.js_machine.specs.Closed.{IsClosed, Lasts};
 ghost use Rattle.js_step_object.specs.Defining.{Comes};
 
 use js_machine::{Next, State, node_at};
@@ -23,7 +25,8 @@ fn fill_declared(
     item: NodeId,
     env: Loc,
 ) -> Result<Option<Next>, StepFault>
-    ensures { (nodes : List kind.Node) → IfOk result (λ ended. Comes nodes (λ p. make_function item env (λ loc. change (bind_in env name.now (Value.Ref loc)) p)) state.old state.new ended) }
+    ensures does { (nodes : List kind.Node) → IfOk result (λ ended. Comes nodes (λ p. make_function item env (λ loc. change (bind_in env name.now (Value.Ref loc)) p)) state.old state.new ended) }
+    ensures closed { (nodes : List kind.Node) → IsClosed nodes state.old → IsCell nat_eq state.old.heap.cells env → Lasts nodes state.old state.new result }
 {
     match make_function(state, item, env)? {
         Ok(function) => {
@@ -47,7 +50,8 @@ fn fill_node(
     item: NodeId,
     env: Loc,
 ) -> Result<Option<Next>, StepFault>
-    ensures { (nodes : List kind.Node) → IfOk result (λ ended. Comes nodes (λ p. fill_function (Some node.now) item env p) state.old state.new ended) }
+    ensures does { (nodes : List kind.Node) → IfOk result (λ ended. Comes nodes (λ p. fill_function (Some node.now) item env p) state.old state.new ended) }
+    ensures closed { (nodes : List kind.Node) → IsClosed nodes state.old → IsCell nat_eq state.old.heap.cells env → Lasts nodes state.old state.new result }
 {
     match node {
         Node::FunDecl { name, .. } => fill_declared(state, name, item, env),
@@ -62,7 +66,8 @@ fn fill_item(
     item: NodeId,
     env: Loc,
 ) -> Result<Option<Next>, StepFault>
-    ensures { IfOk result (λ ended. Comes (nodes_of tree.now) (λ p. fill_function (slice_get (nodes_of tree.now) item.0) item env p) state.old state.new ended) }
+    ensures does { IfOk result (λ ended. Comes (nodes_of tree.now) (λ p. fill_function (slice_get (nodes_of tree.now) item.0) item env p) state.old state.new ended) }
+    ensures closed { IsClosed (nodes_of tree.now) state.old → IsCell nat_eq state.old.heap.cells env → Lasts (nodes_of tree.now) state.old state.new result }
 {
     match node_at(tree, item) {
         Some(node) => fill_node(state, node, item, env),
@@ -78,7 +83,8 @@ pub fn fill_functions(
     items: &[NodeId],
     env: Loc,
 ) -> Result<Option<Next>, StepFault>
-    ensures { IfOk result (λ ended. Comes (nodes_of tree.now) (λ p. fill_functions items.now env p) state.old state.new ended) }
+    ensures does { IfOk result (λ ended. Comes (nodes_of tree.now) (λ p. fill_functions items.now env p) state.old state.new ended) }
+    ensures closed { IsClosed (nodes_of tree.now) state.old → IsCell nat_eq state.old.heap.cells env → Lasts (nodes_of tree.now) state.old state.new result }
 {
     'items: for item in items {
         if let Some(next) = fill_item(state, tree, *item, env)? {

@@ -8,6 +8,8 @@ ghost use Rattle.js_semantics.specs.Environments.{env_cell};
 ghost use Rattle.js_semantics.specs.Prog.{alloc};
 ghost use Rattle.js_semantics.specs.Statements.{fill_functions, global_of, run_items, script_of};
 ghost use Rattle.js_machine.specs.Does.{Does, world_of};
+ghost use Rattle.js_machine.specs.Closed.{IsClosed, Lasts, ValueFits};
+ghost use Rattle.js_step_stmt.specs.Fitting.{BindingsFit};
 ghost use Rattle.js_machine.specs.Parts.{items_of};
 
 use crate::block::filled;
@@ -20,7 +22,8 @@ use world_heap::{Binding, BuiltIn, Value};
 
 // The global object, which is the receiver at the top of a script.
 fn global_of(state: &State) -> Value
-    ensures { (nodes : List kind.Node) (supply : ℕ → ℕ) → result ≡ global_of (world_of nodes supply state.now) }
+    ensures is { (nodes : List kind.Node) (supply : ℕ → ℕ) → result ≡ global_of (world_of nodes supply state.now) }
+    ensures closed { (nodes : List kind.Node) → IsClosed nodes state.now → ValueFits state.now.heap.cells result }
 {
     match state.built_in(BuiltIn::Global) {
         Some(loc) => Value::Ref(loc),
@@ -36,7 +39,8 @@ fn script_in(
     bindings: Items<Binding>,
     receiver: Value,
 ) -> Result<Next, StepFault>
-    ensures { IfOk result (λ made. Does (nodes_of tree.now) 6 (alloc (env_cell None bindings) (λ env. fill_functions (items_of (slice_get (nodes_of tree.now) node.0)) env (run_items (items_of (slice_get (nodes_of tree.now) node.0)) (record { env = env; receiver = receiver })))) state.old state.new made) }
+    ensures does { IfOk result (λ made. Does (nodes_of tree.now) 6 (alloc (env_cell None bindings) (λ env. fill_functions (items_of (slice_get (nodes_of tree.now) node.0)) env (run_items (items_of (slice_get (nodes_of tree.now) node.0)) (record { env = env; receiver = receiver })))) state.old state.new made) }
+    ensures closed { IsClosed (nodes_of tree.now) state.old → BindingsFit state.old.heap.cells bindings → ValueFits state.old.heap.cells receiver → Lasts (nodes_of tree.now) state.old state.new result }
 {
     match state.make_environment(None, bindings)? {
         Ok(env) => filled(state, tree, node, Scope { env, receiver }),
@@ -46,7 +50,8 @@ fn script_in(
 
 // The row of a node that is a script, by its items.
 fn script_items(state: &mut State, tree: &Tree, node: NodeId) -> Result<Next, StepFault>
-    ensures { IfOk result (λ made. Does (nodes_of tree.now) 6 (script_of (Some (kinds.Script (items_of (slice_get (nodes_of tree.now) node.0))))) state.old state.new made) }
+    ensures does { IfOk result (λ made. Does (nodes_of tree.now) 6 (script_of (Some (kinds.Script (items_of (slice_get (nodes_of tree.now) node.0))))) state.old state.new made) }
+    ensures closed { IsClosed (nodes_of tree.now) state.old → Lasts (nodes_of tree.now) state.old state.new result }
 {
     let bindings = declared_in(state.alloc, tree, items_of(tree, node))?;
     let receiver = global_of(state);
@@ -56,7 +61,8 @@ fn script_items(state: &mut State, tree: &Tree, node: NodeId) -> Result<Next, St
 /// The row of a script, which always has an environment. A node that is no script does nothing.
 #[tactic(auto, unfolding(js_semantics::specs::Statements::script_of))]
 pub fn row_script(state: &mut State, tree: &Tree, node: NodeId) -> Result<Next, StepFault>
-    ensures { IfOk result (λ made. Does (nodes_of tree.now) 6 (script_of (slice_get (nodes_of tree.now) node.0)) state.old state.new made) }
+    ensures does { IfOk result (λ made. Does (nodes_of tree.now) 6 (script_of (slice_get (nodes_of tree.now) node.0)) state.old state.new made) }
+    ensures closed { IsClosed (nodes_of tree.now) state.old → Lasts (nodes_of tree.now) state.old state.new result }
 {
     match node_at(tree, node) {
         Some(found) => match found {
