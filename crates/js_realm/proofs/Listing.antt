@@ -49,6 +49,12 @@ stands_at (k ∷ ks) (suc n) h =
       | false ↦ stands_at ks n (omega arith)
     ]
 
+-- and what holds of it holds of the location at that place
+pub some_at : (P : ℕ → Type 0) (ks : List ℕ) (n : ℕ) → n < length ks → P (get_or ks n 0) → IsSomeAnd (slice_get ks n) P
+some_at P [] n h p = absurd (omega arith)
+some_at P (k ∷ ks) zero h p = p
+some_at P (k ∷ ks) (suc n) h p = some_at P ks n (omega arith) p
+
 -- an object is no environment
 object_no_env : (c : Cell ℕ) → is_some (body_of c) ≡ true → is_env c ≡ false
 object_no_env (Object b) h = refl

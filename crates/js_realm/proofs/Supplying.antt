@@ -1,20 +1,22 @@
 -- The realm at the locations of a heap, and at those of a supply that the heap follows.
-use Rattle.std.proofs.Common.{◌≡◌, ℕ, zero, suc, ◌+◌, ◌<◌, true, false, if◌then◌else◌, List, [], ◌∷◌, ◌++◌, length, get_or, nat_lt, Option, Some, None, refl, sym, ap, ◌∙◌, arith}
+use Rattle.std.proofs.Common.{◌≡◌, ℕ, zero, suc, ◌+◌, ◌<◌, true, false, if◌then◌else◌, List, [], ◌∷◌, ◌++◌, length, get_or, nat_eq, nat_lt, Option, Some, None, refl, sym, ap, ◌∙◌, arith}
 use Rattle.std.proofs.lemmas.Bool.Decides.{nat_tests}
 use Rattle.std.specs.Prelude.{option_map, option_to_list}
 use Rattle.world_kind.specs.declared.WorldKind.{WorldKind}
 use Rattle.world_kind.specs.declared.WorldKind.TheVariants.{Main, Preload, Page}
 use Rattle.world_heap.specs.declared.cell.Cell.{Cell}
+use Rattle.world_heap.specs.Heaps.{IsNoEnv}
 use Rattle.world_heap.specs.Maps.{keys}
 use Rattle.world_heap.specs.Starting.{empty_heap, with_built_in}
 use Rattle.world_heap.specs.Views.{Bounds, HeapView, PoolView}
 use Rattle.js_semantics.specs.World.{limited}
 use Rattle.js_semantics.specs.Realm.{located, realm, realm_cells, realm_length}
+use Rattle.js_machine.specs.Closed.{HasRealm}
 use Rattle.js_machine.specs.Does.{Follows, IsRealm}
 use Rattle.js_realm.specs.Building.{IsBare, bare_cells, contents, supply_of}
 use Rattle.world_heap.specs.Stored.{IsDistinct}
 use Rattle.js_realm.specs.Filling.{Fills, IsOpen, are_objects, with_all}
-use Rattle.js_realm.proofs.Listing.{length-contents, length-keys}
+use Rattle.js_realm.proofs.Listing.{length-contents, length-keys, objects_no_env, some_at, stands_at}
 
 -- the bare cells are objects, and with all their members those of the realm
 pub objects_bare : (supply : ℕ → Option ℕ) (kind : WorldKind) → are_objects (bare_cells supply kind) ≡ true
@@ -130,3 +132,9 @@ module _ (limits : Bounds) (pool : PoolView) (kind : WorldKind) (heap : HeapView
       let base : realm_length kind ≡ 0 + length new.cells = omega (arith, len) in
       fills.rest ∙ ap (λ (h : HeapView). record h { cells = new.cells }) bare.rest
       ∙ ap (λ n. record (empty_heap limits pool) { cells = new.cells; base = n }) base
+
+  pub realm_stands : (new : HeapView) → Fills places (with_all places kind) heap new → HasRealm kind new.cells
+  realm_stands new fills place below =
+      let within : place < length (keys new.cells) = omega (arith, ap length fills.goes_on.located, places_are, below) in
+      some_at (IsNoEnv nat_eq new.cells) (keys new.cells) place within
+      (objects_no_env new.cells (get_or (keys new.cells) place 0) fills.goes_on.objects (stands_at (keys new.cells) place within))

@@ -1,5 +1,6 @@
 //! Members that are put into the cells of a realm.
-ghost use Rattle.std.specs.Prelude.{◌<◌, ◌≤◌, OnOk, length};
+ghost use Rattle.std.specs.Prelude.{◌<◌, ◌≤◌, OnOk, length, nat_eq};
+ghost use Rattle.world_heap.specs.Heaps.{IsWell};
 ghost use Rattle.js_semantics.specs.Realm.{error_kinds, realm_length};
 ghost use Rattle.js_realm.specs.Filling.{AreWithin, Fills, IsOpen, filled, with_all, with_console, with_error, with_errors, with_global, with_module};
 
@@ -36,7 +37,8 @@ fn fill(heap: &mut Heap, places: &[Loc], place: usize, members: Table<Property>)
     requires heap { IsOpen places.now heap.old }
     requires place { place < length places.now }
     requires members { AreWithin places.now members }
-    ensures { Fills places.now (filled place members) heap.old heap.new }
+    ensures does { Fills places.now (filled place members) heap.old heap.new }
+    ensures well { IsWell nat_eq heap.new.cells }
 {
     let loc = places[place];
     let (proto, extensible) = match body(heap.cell(loc)) {
@@ -107,7 +109,8 @@ fn fill_global(
 fn fill_console(alloc: Global, heap: &mut Heap, places: &[Loc]) -> Result<(), AllocError>
     requires heap { IsOpen places.now heap.old }
     requires places { 30 ≤ length places.now }
-    ensures { OnOk result (Fills places.now (with_console places.now) heap.old heap.new) }
+    ensures does { OnOk result (Fills places.now (with_console places.now) heap.old heap.new) }
+    ensures well { OnOk result (IsWell nat_eq heap.new.cells) }
 {
     let members = console_members(alloc, places)?;
     fill(heap, places, CONSOLE, members);
@@ -123,7 +126,8 @@ fn fill_module(
 ) -> Result<(), AllocError>
     requires heap { IsOpen places.now heap.old }
     requires places { realm_length kind ≤ length places.now }
-    ensures { OnOk result (Fills places.now (with_module places.now kind) heap.old heap.new) }
+    ensures does { OnOk result (Fills places.now (with_module places.now kind) heap.old heap.new) }
+    ensures keeps { OnOk result (IsWell nat_eq heap.old.cells → IsWell nat_eq heap.new.cells) }
 {
     match kind {
         WorldKind::Main => {
@@ -151,7 +155,8 @@ pub fn fill_realm(
 ) -> Result<(), AllocError>
     requires heap { IsOpen places.now heap.old }
     requires places { realm_length kind ≤ length places.now }
-    ensures { OnOk result (Fills places.now (with_all places.now kind) heap.old heap.new) }
+    ensures does { OnOk result (Fills places.now (with_all places.now kind) heap.old heap.new) }
+    ensures well { OnOk result (IsWell nat_eq heap.new.cells) }
 {
     fill_errors(alloc, heap, places)?;
     fill_global(alloc, heap, places, kind)?;

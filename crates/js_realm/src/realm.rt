@@ -1,10 +1,12 @@
 //! The realm of a world, and its first state.
-ghost use Rattle.std.specs.Prelude.{◌≡◌, ◌^◌, ◌-◌, ◌<◌, ◌≤◌, ℕ, IfOk, List, length};
+ghost use Rattle.std.specs.Prelude.{◌≡◌, ◌^◌, ◌-◌, ◌<◌, ◌≤◌, ℕ, IfOk, List, length, nat_eq};
 ghost use Rattle.js_tree.specs.declared.node.Node as tree_node;
 ghost use Rattle.world_heap.specs.Bounded.{bounds_of};
+ghost use Rattle.world_heap.specs.Heaps.{IsWell};
 ghost use Rattle.world_heap.specs.Starting.{empty_heap, with_built_in};
 ghost use Rattle.js_semantics.specs.Alone.{alone_by};
 ghost use Rattle.js_semantics.specs.Run.{Arrival};
+ghost use Rattle.js_machine.specs.Closed.{HasRealm, IsClosed};
 ghost use Rattle.js_machine.specs.Does.{Follows, IsFresh, IsRealm, to_come};
 
 use crate::bare::bare_realm;
@@ -32,6 +34,8 @@ pub fn new_realm(
     requires room { length pool.maps ≤ 31 }
     ensures realm { IfOk result (λ heap. (supply : ℕ → ℕ) → Follows supply 0 heap.cells → IsRealm supply kind heap) }
     ensures rest { IfOk result (λ heap. heap ≡ with_built_in (empty_heap (bounds_of limits) pool) heap.cells) }
+    ensures well { IfOk result (λ heap. IsWell nat_eq heap.cells) }
+    ensures stands { IfOk result (λ heap. HasRealm kind heap.cells) }
 {
     let mut heap = with_distinct_places(bare_realm(alloc, limits, kind, pool)?);
     let places = cell_places(alloc, &heap)?;
@@ -57,6 +61,7 @@ pub fn first_state(
     ensures fresh { IfOk result (λ state. IsFresh kind (with_built_in (empty_heap (bounds_of limits) pool) state.heap.cells) state) }
     ensures traces { (nodes : List tree_node.Node) (supply : ℕ → ℕ) (ds : List Arrival) → IfOk result (λ state. Follows supply 0 state.heap.cells
         → to_come nodes supply state ds ≡ alone_by supply (record { kind = kind; limits = bounds_of limits; tree = nodes }) ds) }
+    ensures closed { (nodes : List tree_node.Node) → IfOk result (λ state. IsClosed nodes state) }
 {
     let heap = new_realm(alloc, limits, kind, pool)?;
     Ok(State::new(alloc, heap, kind))
