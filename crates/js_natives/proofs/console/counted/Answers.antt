@@ -13,8 +13,8 @@ pub returns-then-count_units-clause-closed : goal.returns-then-count_units-claus
 returns-then-count_units-clause-closed c nodes closed =
     let old = c.args.state.now in
     let mid = c.count_units.new.self in
-    let went = closed_units nodes _ old mid _ closed c.count_units.ensures in
+    let went = closed_units nodes c.len.result old mid c.count_units.result closed c.count_units.ensures in
     lasts_on nodes old mid c.told.new.state c.told.result went (c.told.ensures.closed nodes went.closed)
 
 pub returns-else-count_units-clause-closed : goal.returns-else-count_units-clause-closed
-returns-else-count_units-clause-closed c nodes closed = closed_units nodes _ c.args.state.now c.count_units.new.self _ closed c.count_units.ensures
+returns-else-count_units-clause-closed c nodes closed = closed_units nodes c.len.result c.args.state.now c.count_units.new.self c.count_units.result closed c.count_units.ensures
