@@ -4,14 +4,13 @@ use Rattle.js_tree.specs.declared.node.Node.{Node}
 use Rattle.parcel.specs.declared.parcel.ErrorKind.{ErrorKind}
 use Rattle.world_heap.specs.declared.value.Value.{Value}
 use Rattle.world_heap.specs.declared.value.Value.TheVariants.{Undefined, Null, Bool as Boolean, Num, Str, Ref}
-use Rattle.js_semantics.specs.declared.fault.Fault.TheVariants.{WrongArgument}
 use Rattle.js_semantics.specs.declared.fault.StepFault.{StepFault}
 use Rattle.world_kind.specs.declared.WorldKind.{WorldKind}
 use Rattle.world_log.specs.declared.entry.Level.{Level}
 use Rattle.world_log.specs.declared.entry.Product.TheVariants.{Console}
 use Rattle.js_semantics.specs.Display.{line_of}
 use Rattle.js_semantics.specs.World.{World, over}
-use Rattle.js_semantics.specs.Prog.{Make, Native, Prog, Read, count_units, give, throw}
+use Rattle.js_semantics.specs.Prog.{Make, Native, Prog, count_units, give}
 use Rattle.js_semantics.specs.Natives.{is_module, missing_module, native_at, native_row, require_named, row_console, row_error, row_require, throw_message}
 use Rattle.js_semantics.specs.Realm.{module_of}
 use Rattle.js_semantics.specs.Rows.{row}
