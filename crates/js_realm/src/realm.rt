@@ -44,7 +44,8 @@ pub fn new_realm(
 }
 
 /// The state of a world of a kind in which nothing has happened: over its realm, in a pool. Whatever script it loads,
-/// what is to come is what such a world makes alone. Where memory runs out the pool is gone.
+/// what is to come is what such a world makes alone. All that the state holds fits its heap, whatever nodes the script has.
+/// Where memory runs out the pool is gone.
 ///
 /// Fewer than 2^32-1 owner numbers were given out, and at most 31 heaps stand in the pool.
 ///
