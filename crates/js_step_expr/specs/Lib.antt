@@ -1,3 +1,4 @@
+pub mod Fitting
 pub mod Left
 pub mod Settling
 pub mod Targets

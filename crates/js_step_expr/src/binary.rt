@@ -1,5 +1,5 @@
 //! Operators between two operands (ECMA-262, 13.6 to 13.12).
-ghost use Rattle.std.specs.Prelude.{◌≢◌, ℕ, List, IfOk};
+ghost use Rattle.std.specs.Prelude.{◌≢◌, ℕ, List, IfOk, MatchResult};
 ghost use Rattle.world_heap.specs.declared.value.Value as values;
 ghost use Rattle.js_tree.specs.declared.node.Node as kind;
 ghost use Rattle.js_semantics.specs.Prog.{Prog};
@@ -8,6 +8,8 @@ ghost use Rattle.js_operators.specs.Answers.{computed_of};
 ghost use Rattle.js_machine.specs.Does.{Does, Moves};
 ghost use Rattle.js_machine.specs.Frames.{operand_rest};
 ghost use Rattle.js_step_expr.specs.Settling.{Settles};
+ghost use Rattle.js_machine.specs.Closed.{IsClosed, Lasts, ScopeFits, ValueFits};
+ghost use Rattle.js_step_expr.specs.Fitting.{AnswerFits, LastsWith, SettledFits};
 
 use crate::entering::enter_operand;
 use crate::membership::membership;
@@ -27,7 +29,8 @@ pub fn row_binary(
     right: NodeId,
     scope: Scope,
 ) -> Result<Next, StepFault>
-    ensures { (nodes : List kind.Node) → IfOk result (λ next. Does nodes 6 (row_binary operator left right scope) state.old state.new next) }
+    ensures does { (nodes : List kind.Node) → IfOk result (λ next. Does nodes 6 (row_binary operator left right scope) state.old state.new next) }
+    ensures closed { (nodes : List kind.Node) → IsClosed nodes state.old → ScopeFits nodes state.old.heap.cells scope → Lasts nodes state.old state.new result }
 {
     let inner = copy_scope(state.alloc, &scope)?;
     let frame = OperandFrame::BinaryLeft {
@@ -46,7 +49,8 @@ pub fn binary_left(
     scope: Scope,
     left: Value,
 ) -> Result<Next, StepFault>
-    ensures { (nodes : List kind.Node) → IfOk result (λ next. Does nodes 6 (operand_rest nodes (OperandFrame.BinaryLeft operator right scope) left) state.old state.new next) }
+    ensures does { (nodes : List kind.Node) → IfOk result (λ next. Does nodes 6 (operand_rest nodes (OperandFrame.BinaryLeft operator right scope) left) state.old state.new next) }
+    ensures closed { (nodes : List kind.Node) → IsClosed nodes state.old → ScopeFits nodes state.old.heap.cells scope → ValueFits state.old.heap.cells left → Lasts nodes state.old state.new result }
 {
     enter_operand(
         state,
@@ -64,7 +68,8 @@ fn answer_of(
     right: &Value,
 ) -> Result<Answer, StepFault>
     requires { operator ≢ BinaryOperator.InstanceOf }
-    ensures { (nodes : List kind.Node) (k : values.Value ℕ → Prog ℕ) → IfOk result (λ answer. Moves nodes (apply operator left.now right.now k) state.now (compute (computed_of answer) k) state.now) }
+    ensures is { (nodes : List kind.Node) (k : values.Value ℕ → Prog ℕ) → IfOk result (λ answer. Moves nodes (apply operator left.now right.now k) state.now (compute (computed_of answer) k) state.now) }
+    ensures closed { ValueFits state.now.heap.cells left.now → ValueFits state.now.heap.cells right.now → MatchResult result (λ answer. AnswerFits state.now.heap.cells answer) (λ fault. fault ≡ StepFault.Memory) }
 {
     match operator {
         BinaryOperator::In => Ok(membership(state.alloc, &state.heap, left, right)?),
@@ -89,7 +94,8 @@ pub fn apply(
     right: &Value,
 ) -> Result<Result<Value, Next>, StepFault>
     requires { operator ≢ BinaryOperator.InstanceOf }
-    ensures { (nodes : List kind.Node) (k : values.Value ℕ → Prog ℕ) → IfOk result (λ settled. Settles nodes (apply operator left.now right.now k) k state.old state.new settled) }
+    ensures does { (nodes : List kind.Node) (k : values.Value ℕ → Prog ℕ) → IfOk result (λ settled. Settles nodes (apply operator left.now right.now k) k state.old state.new settled) }
+    ensures closed { (nodes : List kind.Node) → IsClosed nodes state.old → ValueFits state.old.heap.cells left.now → ValueFits state.old.heap.cells right.now → LastsWith SettledFits nodes state.old state.new result }
 {
     let answer = answer_of(state, operator, left, right)?;
     settle(state, answer)
@@ -106,7 +112,8 @@ pub fn binary_right(
     right: Value,
 ) -> Result<Next, StepFault>
     requires { operator ≢ BinaryOperator.InstanceOf }
-    ensures { (nodes : List kind.Node) → IfOk result (λ next. Does nodes 6 (operand_rest nodes (OperandFrame.BinaryRight operator left) right) state.old state.new next) }
+    ensures does { (nodes : List kind.Node) → IfOk result (λ next. Does nodes 6 (operand_rest nodes (OperandFrame.BinaryRight operator left) right) state.old state.new next) }
+    ensures closed { (nodes : List kind.Node) → IsClosed nodes state.old → ValueFits state.old.heap.cells left → ValueFits state.old.heap.cells right → Lasts nodes state.old state.new result }
 {
     let answer = answer_of(state, operator, &left, &right)?;
     finish(state, answer)

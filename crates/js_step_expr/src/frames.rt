@@ -7,6 +7,11 @@ ghost use Rattle.js_machine.specs.declared.state.State as kept;
 ghost use Rattle.js_machine.specs.Frames.{operand_rest, write_place};
 ghost use Rattle.js_step_expr.specs.Left.{DoesOrComes};
 ghost use Rattle.js_step_expr.specs.Settling.{Settles};
+ghost use Rattle.world_heap.specs.declared.cell.Cell as there;
+ghost use Rattle.js_machine.specs.declared.frame.Frame.TheVariants.{OnValue};
+ghost use Rattle.js_machine.specs.declared.frame.ValueFrame.TheVariants.{Operand};
+ghost use Rattle.js_machine.specs.Closed.{FrameFits, IsClosed, PlaceFits, ValueFits};
+ghost use Rattle.js_step_expr.specs.Fitting.{LastsWith, LeftFits, SettledFits};
 
 use crate::binary::{apply, binary_left, binary_right};
 use crate::choice::{and_left, cond_test, nullish_left, or_left, seq_first};
@@ -55,7 +60,8 @@ fn both_operands(
     left: Value,
     right: Value,
 ) -> Result<Result<Next, Remaining>, StepFault>
-    ensures { (nodes : List kind.Node) → IfOk result (λ r. DoesOrComes nodes (operand_rest nodes (OperandFrame.BinaryRight operator left) right) state.old state.new r) }
+    ensures does { (nodes : List kind.Node) → IfOk result (λ r. DoesOrComes nodes (operand_rest nodes (OperandFrame.BinaryRight operator left) right) state.old state.new r) }
+    ensures closed { (nodes : List kind.Node) → IsClosed nodes state.old → ValueFits state.old.heap.cells left → ValueFits state.old.heap.cells right → LastsWith (LeftFits nodes) nodes state.old state.new result }
 {
     match operator {
         BinaryOperator::InstanceOf => Ok(Err(Remaining::Instance {
@@ -69,7 +75,8 @@ fn both_operands(
 
 // What is left where an operator's result is assigned.
 fn written(place: Place, settled: Result<Value, Next>) -> Result<Next, Remaining>
-    ensures { (nodes : List kind.Node) (p : Prog ℕ) (old new : kept.State) → Settles nodes p (λ v. write_place nodes place v (give v)) old new settled → DoesOrComes nodes p old new result }
+    ensures does { (nodes : List kind.Node) (p : Prog ℕ) (old new : kept.State) → Settles nodes p (λ v. write_place nodes place v (give v)) old new settled → DoesOrComes nodes p old new result }
+    ensures closed { (nodes : List kind.Node) (cells : List (ℕ × there.Cell ℕ)) → PlaceFits nodes cells place → SettledFits cells settled → LeftFits nodes cells result }
 {
     match settled {
         Ok(value) => Err(Remaining::Write { place, value }),
@@ -89,7 +96,8 @@ fn assigned(
     value: Value,
 ) -> Result<Result<Next, Remaining>, StepFault>
     requires { operator ≢ BinaryOperator.InstanceOf }
-    ensures { (nodes : List kind.Node) → IfOk result (λ r. DoesOrComes nodes (operand_rest nodes (OperandFrame.AssignOperand operator old place) value) state.old state.new r) }
+    ensures does { (nodes : List kind.Node) → IfOk result (λ r. DoesOrComes nodes (operand_rest nodes (OperandFrame.AssignOperand operator old place) value) state.old state.new r) }
+    ensures closed { (nodes : List kind.Node) → IsClosed nodes state.old → ValueFits state.old.heap.cells old → PlaceFits nodes state.old.heap.cells place → ValueFits state.old.heap.cells value → LastsWith (LeftFits nodes) nodes state.old state.new result }
 {
     let settled = apply(state, operator, &old, &value)?;
     Ok(written(place, settled))
@@ -103,7 +111,8 @@ fn assign_operand(
     place: Place,
     value: Value,
 ) -> Result<Result<Next, Remaining>, StepFault>
-    ensures { (nodes : List kind.Node) → IfOk result (λ r. DoesOrComes nodes (operand_rest nodes (OperandFrame.AssignOperand operator old place) value) state.old state.new r) }
+    ensures does { (nodes : List kind.Node) → IfOk result (λ r. DoesOrComes nodes (operand_rest nodes (OperandFrame.AssignOperand operator old place) value) state.old state.new r) }
+    ensures closed { (nodes : List kind.Node) → IsClosed nodes state.old → ValueFits state.old.heap.cells old → PlaceFits nodes state.old.heap.cells place → ValueFits state.old.heap.cells value → LastsWith (LeftFits nodes) nodes state.old state.new result }
 {
     match operator {
         BinaryOperator::InstanceOf => Ok(Err(Remaining::Instance {
@@ -125,7 +134,8 @@ pub fn operand(
     frame: OperandFrame,
     value: Value,
 ) -> Result<Result<Next, Remaining>, StepFault>
-    ensures { IfOk result (λ r. DoesOrComes (nodes_of tree.now) (operand_rest (nodes_of tree.now) frame value) state.old state.new r) }
+    ensures does { IfOk result (λ r. DoesOrComes (nodes_of tree.now) (operand_rest (nodes_of tree.now) frame value) state.old state.new r) }
+    ensures closed { IsClosed (nodes_of tree.now) state.old → FrameFits (nodes_of tree.now) state.old.heap.cells (OnValue (Operand frame)) → ValueFits state.old.heap.cells value → LastsWith (LeftFits (nodes_of tree.now)) (nodes_of tree.now) state.old state.new result }
 {
     match frame {
         OperandFrame::TemplatePart {

@@ -1,5 +1,5 @@
 //! The operator `in` (ECMA-262, 13.10.1).
-ghost use Rattle.std.specs.Prelude.{◌≡◌, ℕ, nat_eq, IfOk, IfSome, Some};
+ghost use Rattle.std.specs.Prelude.{◌≡◌, ℕ, nat_eq, IfOk, IfSome, Some, IfErr, MatchResult};
 ghost use Rattle.world_heap.specs.Heaps.{IsCell};
 ghost use Rattle.world_heap.specs.declared.value.Value as values;
 ghost use Rattle.js_semantics.specs.World.{World, over};
@@ -8,6 +8,8 @@ ghost use Rattle.js_semantics.specs.Properties.{has_property, object_of};
 ghost use Rattle.js_semantics.specs.Operators.{key_of};
 ghost use Rattle.js_semantics.specs.Expressions.{compute, has_key};
 ghost use Rattle.js_operators.specs.Answers.{computed_of};
+ghost use Rattle.js_machine.specs.Closed.{ValueFits};
+ghost use Rattle.js_step_expr.specs.Fitting.{AnswerFits};
 
 use js_machine::{is_cell, object_of};
 use js_operators::{Answer, key_of};
@@ -21,6 +23,7 @@ use world_heap::{Heap, Loc, Value};
 fn object_at(heap: &Heap, value: &Value) -> Result<Option<Loc>, StepFault>
     ensures is { (w : World ℕ) → IfOk result (λ found. found ≡ object_of value.now (over heap.now w)) }
     ensures stands { IfOk result (λ found. IfSome found (λ loc. IsCell nat_eq heap.now.cells loc)) }
+    ensures closed { ValueFits heap.now.cells value.now → IfErr result (λ fault. fault ≡ StepFault.Memory) }
 {
     match object_of(heap, value) {
         Some(loc) => {
@@ -48,7 +51,8 @@ fn has_property(heap: &Heap, loc: Loc, key: &Units) -> bool
 // What `in` comes to on a key and an object.
 fn has_key(heap: &Heap, loc: Loc, key: &Units) -> Answer
     requires { IsCell nat_eq heap.now.cells loc }
-    ensures { (w : World ℕ) (k : values.Value ℕ → Prog ℕ) → has_key (Some key.now) (Some loc) (over heap.now w) k ≡ compute (computed_of result) k }
+    ensures is { (w : World ℕ) (k : values.Value ℕ → Prog ℕ) → has_key (Some key.now) (Some loc) (over heap.now w) k ≡ compute (computed_of result) k }
+    ensures closed { AnswerFits heap.now.cells result }
 {
     Answer::Is(Value::Bool(has_property(heap, loc, key)))
 }
@@ -56,7 +60,8 @@ fn has_key(heap: &Heap, loc: Loc, key: &Units) -> Answer
 // What `in` comes to on a value and an object. No text is made of a key that is a string.
 fn in_object(alloc: Global, heap: &Heap, key: &Value, loc: Loc) -> Result<Answer, StepFault>
     requires { IsCell nat_eq heap.now.cells loc }
-    ensures { (w : World ℕ) (k : values.Value ℕ → Prog ℕ) → IfOk result (λ answer. has_key (key_of key.now) (Some loc) (over heap.now w) k ≡ compute (computed_of answer) k) }
+    ensures is { (w : World ℕ) (k : values.Value ℕ → Prog ℕ) → IfOk result (λ answer. has_key (key_of key.now) (Some loc) (over heap.now w) k ≡ compute (computed_of answer) k) }
+    ensures closed { MatchResult result (λ answer. AnswerFits heap.now.cells answer) (λ fault. fault ≡ StepFault.Memory) }
 {
     match key {
         Value::Str(text) => Ok(has_key(heap, loc, text)),
@@ -79,7 +84,8 @@ pub(crate) fn membership(
     key: &Value,
     object: &Value,
 ) -> Result<Answer, StepFault>
-    ensures { (w : World ℕ) (k : values.Value ℕ → Prog ℕ) → IfOk result (λ answer. has_key (key_of key.now) (object_of object.now (over heap.now w)) (over heap.now w) k ≡ compute (computed_of answer) k) }
+    ensures is { (w : World ℕ) (k : values.Value ℕ → Prog ℕ) → IfOk result (λ answer. has_key (key_of key.now) (object_of object.now (over heap.now w)) (over heap.now w) k ≡ compute (computed_of answer) k) }
+    ensures closed { ValueFits heap.now.cells object.now → MatchResult result (λ answer. AnswerFits heap.now.cells answer) (λ fault. fault ≡ StepFault.Memory) }
 {
     match object_at(heap, object)? {
         Some(loc) => in_object(alloc, heap, key, loc),

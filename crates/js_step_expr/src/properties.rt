@@ -4,6 +4,8 @@ ghost use Rattle.js_tree.specs.declared.node.Node as kind;
 ghost use Rattle.js_machine.specs.Does.{Does};
 ghost use Rattle.js_machine.specs.Frames.{property_rest, use_rest};
 ghost use Rattle.js_step_expr.specs.Left.{DoesOrComes};
+ghost use Rattle.js_machine.specs.Closed.{FrameFits, IsClosed, Lasts, ScopeFits, ValueFits};
+ghost use Rattle.js_step_expr.specs.Fitting.{KeyFits, LastsWith, LeftFits};
 
 use crate::entering::enter_operand;
 use crate::frames::Remaining;
@@ -24,7 +26,8 @@ pub fn used(
     key: Key,
     scope: Scope,
 ) -> Result<Result<Next, Remaining>, StepFault>
-    ensures { (nodes : List kind.Node) → IfOk result (λ r. DoesOrComes nodes (use_rest nodes usage base key scope) state.old state.new r) }
+    ensures does { (nodes : List kind.Node) → IfOk result (λ r. DoesOrComes nodes (use_rest nodes usage base key scope) state.old state.new r) }
+    ensures closed { (nodes : List kind.Node) → IsClosed nodes state.old → ValueFits state.old.heap.cells base → KeyFits nodes state.old.heap.cells key → ScopeFits nodes state.old.heap.cells scope → LastsWith (LeftFits nodes) nodes state.old state.new result }
 {
     match usage {
         Use::Assign { value } => {
@@ -48,7 +51,8 @@ pub fn index_object(
     scope: Scope,
     base: Value,
 ) -> Result<Next, StepFault>
-    ensures { (nodes : List kind.Node) → IfOk result (λ next. Does nodes 6 (property_rest nodes (PropertyFrame.IndexObject key usage scope) base) state.old state.new next) }
+    ensures does { (nodes : List kind.Node) → IfOk result (λ next. Does nodes 6 (property_rest nodes (PropertyFrame.IndexObject key usage scope) base) state.old state.new next) }
+    ensures closed { (nodes : List kind.Node) → IsClosed nodes state.old → ScopeFits nodes state.old.heap.cells scope → ValueFits state.old.heap.cells base → Lasts nodes state.old state.new result }
 {
     let inner = copy_scope(state.alloc, &scope)?;
     let frame = PropertyFrame::IndexKey { base, usage, scope };
@@ -63,7 +67,8 @@ pub fn index_key(
     scope: Scope,
     value: Value,
 ) -> Result<Result<Next, Remaining>, StepFault>
-    ensures { (nodes : List kind.Node) → IfOk result (λ r. DoesOrComes nodes (property_rest nodes (PropertyFrame.IndexKey base usage scope) value) state.old state.new r) }
+    ensures does { (nodes : List kind.Node) → IfOk result (λ r. DoesOrComes nodes (property_rest nodes (PropertyFrame.IndexKey base usage scope) value) state.old state.new r) }
+    ensures closed { (nodes : List kind.Node) → IsClosed nodes state.old → ValueFits state.old.heap.cells base → ScopeFits nodes state.old.heap.cells scope → ValueFits state.old.heap.cells value → LastsWith (LeftFits nodes) nodes state.old state.new result }
 {
     match key_of(state.alloc, &value)? {
         Some(text) => used(state, usage, base, Key::Text(text), scope),
@@ -77,7 +82,8 @@ pub fn property(
     frame: PropertyFrame,
     value: Value,
 ) -> Result<Result<Next, Remaining>, StepFault>
-    ensures { (nodes : List kind.Node) → IfOk result (λ r. DoesOrComes nodes (property_rest nodes frame value) state.old state.new r) }
+    ensures does { (nodes : List kind.Node) → IfOk result (λ r. DoesOrComes nodes (property_rest nodes frame value) state.old state.new r) }
+    ensures closed { (nodes : List kind.Node) → IsClosed nodes state.old → FrameFits nodes state.old.heap.cells (Frame.OnValue (ValueFrame.Property frame)) → ValueFits state.old.heap.cells value → LastsWith (LeftFits nodes) nodes state.old state.new result }
 {
     match frame {
         PropertyFrame::DotObject { node, usage, scope } => {

@@ -1,5 +1,5 @@
 //! Rows of references (ECMA-262, 13.1, 13.3, 13.5.1 and 13.15): properties, `delete` and assignments enter their parts.
-ghost use Rattle.std.specs.Prelude.{◌≡◌, List, IfOk, slice_get};
+ghost use Rattle.std.specs.Prelude.{◌≡◌, List, IfOk, slice_get, ℕ, nat_eq};
 ghost use Rattle.js_tree.specs.declared.node.Node as kind;
 ghost use Rattle.js_names.specs.Patterns.{nodes_of};
 ghost use Rattle.js_semantics.specs.Prog.{eval, step};
@@ -9,6 +9,10 @@ ghost use Rattle.js_machine.specs.Does.{Does};
 ghost use Rattle.js_machine.specs.Frames.{operand_rest};
 ghost use Rattle.js_step_expr.specs.Left.{DoesOrComes, left_of};
 ghost use Rattle.js_step_expr.specs.Targets.{of_index, of_object};
+ghost use Rattle.world_heap.specs.declared.cell.Cell as kept;
+ghost use Rattle.world_heap.specs.Heaps.{IsCell};
+ghost use Rattle.js_machine.specs.Closed.{AfterFits, FrameFits, GoesOn, IsClosed, IsNamed, Lasts, ScopeFits};
+ghost use Rattle.js_step_expr.specs.Fitting.{LastsWith, LeftFits, RemainingFits};
 
 use crate::entering::enter_operand;
 use crate::frames::Remaining;
@@ -31,7 +35,8 @@ fn enter_object(
     usage: Use,
     scope: Scope,
 ) -> Result<Next, StepFault>
-    ensures { (nodes : List kind.Node) → IfOk result (λ next. Does nodes 6 (of_object nodes node object usage scope) state.old state.new next) }
+    ensures does { (nodes : List kind.Node) → IfOk result (λ next. Does nodes 6 (of_object nodes node object usage scope) state.old state.new next) }
+    ensures closed { (nodes : List kind.Node) → IsClosed nodes state.old → IsNamed nodes node → ScopeFits nodes state.old.heap.cells scope → Lasts nodes state.old state.new result }
 {
     let inner = copy_scope(state.alloc, &scope)?;
     let frame = PropertyFrame::DotObject { node, usage, scope };
@@ -46,7 +51,8 @@ fn enter_indexed(
     usage: Use,
     scope: Scope,
 ) -> Result<Next, StepFault>
-    ensures { (nodes : List kind.Node) → IfOk result (λ next. Does nodes 6 (of_index nodes object key usage scope) state.old state.new next) }
+    ensures does { (nodes : List kind.Node) → IfOk result (λ next. Does nodes 6 (of_index nodes object key usage scope) state.old state.new next) }
+    ensures closed { (nodes : List kind.Node) → IsClosed nodes state.old → ScopeFits nodes state.old.heap.cells scope → Lasts nodes state.old state.new result }
 {
     let inner = copy_scope(state.alloc, &scope)?;
     let frame = PropertyFrame::IndexObject { key, usage, scope };
@@ -57,7 +63,8 @@ fn enter_indexed(
 /// name.
 #[tactic(auto, unfolding(js_semantics::specs::Expressions::row_name))]
 pub fn row_name(node: NodeId, scope: Scope) -> Remaining
-    ensures { (nodes : List kind.Node) → left_of nodes result ≡ row_name (name_of (slice_get nodes node.0)) scope }
+    ensures is { (nodes : List kind.Node) → left_of nodes result ≡ row_name (name_of (slice_get nodes node.0)) scope }
+    ensures closed { (nodes : List kind.Node) (cells : List (ℕ × kept.Cell ℕ)) → IsNamed nodes node → ScopeFits nodes cells scope → RemainingFits nodes cells result }
 {
     let env = scope.env;
     discard(scope);
@@ -76,7 +83,8 @@ pub fn row_dot(
     object: NodeId,
     scope: Scope,
 ) -> Result<Next, StepFault>
-    ensures { (nodes : List kind.Node) → IfOk result (λ next. Does nodes 6 (row_dot object (name_of (slice_get nodes node.0)) scope) state.old state.new next) }
+    ensures does { (nodes : List kind.Node) → IfOk result (λ next. Does nodes 6 (row_dot object (name_of (slice_get nodes node.0)) scope) state.old state.new next) }
+    ensures closed { (nodes : List kind.Node) → IsClosed nodes state.old → IsNamed nodes node → ScopeFits nodes state.old.heap.cells scope → Lasts nodes state.old state.new result }
 {
     enter_object(state, node, object, Use::Get, scope)
 }
@@ -89,7 +97,8 @@ pub fn row_index(
     key: NodeId,
     scope: Scope,
 ) -> Result<Next, StepFault>
-    ensures { (nodes : List kind.Node) → IfOk result (λ next. Does nodes 6 (row_index object key scope) state.old state.new next) }
+    ensures does { (nodes : List kind.Node) → IfOk result (λ next. Does nodes 6 (row_index object key scope) state.old state.new next) }
+    ensures closed { (nodes : List kind.Node) → IsClosed nodes state.old → ScopeFits nodes state.old.heap.cells scope → Lasts nodes state.old state.new result }
 {
     enter_indexed(state, object, key, Use::Get, scope)
 }
@@ -102,7 +111,8 @@ fn step_object(
     usage: Use,
     scope: Scope,
 ) -> Result<Next, StepFault>
-    ensures { (nodes : List kind.Node) → IfOk result (λ next. Does nodes 6 (step (of_object nodes node object usage scope)) state.old state.new next) }
+    ensures does { (nodes : List kind.Node) → IfOk result (λ next. Does nodes 6 (step (of_object nodes node object usage scope)) state.old state.new next) }
+    ensures closed { (nodes : List kind.Node) → IsClosed nodes state.old → IsNamed nodes node → ScopeFits nodes state.old.heap.cells scope → Lasts nodes state.old state.new result }
 {
     if !state.step_down() {
         return Ok(stopped(Stop::Fuel));
@@ -118,7 +128,8 @@ fn step_indexed(
     usage: Use,
     scope: Scope,
 ) -> Result<Next, StepFault>
-    ensures { (nodes : List kind.Node) → IfOk result (λ next. Does nodes 6 (step (of_index nodes object key usage scope)) state.old state.new next) }
+    ensures does { (nodes : List kind.Node) → IfOk result (λ next. Does nodes 6 (step (of_index nodes object key usage scope)) state.old state.new next) }
+    ensures closed { (nodes : List kind.Node) → IsClosed nodes state.old → ScopeFits nodes state.old.heap.cells scope → Lasts nodes state.old state.new result }
 {
     if !state.step_down() {
         return Ok(stopped(Stop::Fuel));
@@ -133,7 +144,8 @@ fn step_value(
     value: NodeId,
     scope: Scope,
 ) -> Result<Next, StepFault>
-    ensures { (nodes : List kind.Node) → IfOk result (λ next. Does nodes 6 (step (eval value scope (λ v. operand_rest nodes frame v))) state.old state.new next) }
+    ensures does { (nodes : List kind.Node) → IfOk result (λ next. Does nodes 6 (step (eval value scope (λ v. operand_rest nodes frame v))) state.old state.new next) }
+    ensures closed { (nodes : List kind.Node) → IsClosed nodes state.old → FrameFits nodes state.old.heap.cells (Frame.OnValue (ValueFrame.Operand frame)) → ScopeFits nodes state.old.heap.cells scope → Lasts nodes state.old state.new result }
 {
     if !state.step_down() {
         return Ok(stopped(Stop::Fuel));
@@ -148,7 +160,8 @@ fn step_name(
     env: Loc,
     frame: AfterFrame,
 ) -> Result<Next, Remaining>
-    ensures { (nodes : List kind.Node) → DoesOrComes nodes (step (left_of nodes (Remaining.Read node env frame))) state.old state.new result }
+    ensures does { (nodes : List kind.Node) → DoesOrComes nodes (step (left_of nodes (Remaining.Read node env frame))) state.old state.new result }
+    ensures closed { (nodes : List kind.Node) → IsClosed nodes state.old → IsNamed nodes node → IsCell nat_eq state.old.heap.cells env → AfterFits nodes state.old.heap.cells frame → GoesOn nodes state.old state.new × LeftFits nodes state.new.heap.cells result }
 {
     if !state.step_down() {
         discard(frame);
@@ -167,7 +180,8 @@ pub fn row_assign(
     value: NodeId,
     scope: Scope,
 ) -> Result<Next, StepFault>
-    ensures { IfOk result (λ next. Does (nodes_of tree.now) 6 (row_assign target value scope) state.old state.new next) }
+    ensures does { IfOk result (λ next. Does (nodes_of tree.now) 6 (row_assign target value scope) state.old state.new next) }
+    ensures closed { IsClosed (nodes_of tree.now) state.old → ScopeFits (nodes_of tree.now) state.old.heap.cells scope → Lasts (nodes_of tree.now) state.old state.new result }
 {
     match target_of(tree, target) {
         Target::Name => {
@@ -193,7 +207,8 @@ pub fn row_delete(
     operand: NodeId,
     scope: Scope,
 ) -> Result<Next, StepFault>
-    ensures { IfOk result (λ next. Does (nodes_of tree.now) 6 (row_delete operand scope) state.old state.new next) }
+    ensures does { IfOk result (λ next. Does (nodes_of tree.now) 6 (row_delete operand scope) state.old state.new next) }
+    ensures closed { IsClosed (nodes_of tree.now) state.old → ScopeFits (nodes_of tree.now) state.old.heap.cells scope → Lasts (nodes_of tree.now) state.old state.new result }
 {
     match target_of(tree, operand) {
         Target::Dot { object } => step_object(state, operand, object, Use::Delete, scope),
@@ -211,7 +226,8 @@ pub fn row_typeof(
     operand: NodeId,
     scope: Scope,
 ) -> Result<Result<Next, Remaining>, StepFault>
-    ensures { IfOk result (λ r. DoesOrComes (nodes_of tree.now) (row_typeof operand scope) state.old state.new r) }
+    ensures does { IfOk result (λ r. DoesOrComes (nodes_of tree.now) (row_typeof operand scope) state.old state.new r) }
+    ensures closed { IsClosed (nodes_of tree.now) state.old → ScopeFits (nodes_of tree.now) state.old.heap.cells scope → LastsWith (LeftFits (nodes_of tree.now)) (nodes_of tree.now) state.old state.new result }
 {
     match target_of(tree, operand) {
         Target::Name => Ok(step_name(state, operand, scope.env, AfterFrame::Typeof)),
@@ -232,7 +248,8 @@ pub fn row_update(
     before: bool,
     scope: Scope,
 ) -> Result<Result<Next, Remaining>, StepFault>
-    ensures { IfOk result (λ r. DoesOrComes (nodes_of tree.now) (row_update operator target before scope) state.old state.new r) }
+    ensures does { IfOk result (λ r. DoesOrComes (nodes_of tree.now) (row_update operator target before scope) state.old state.new r) }
+    ensures closed { IsClosed (nodes_of tree.now) state.old → ScopeFits (nodes_of tree.now) state.old.heap.cells scope → LastsWith (LeftFits (nodes_of tree.now)) (nodes_of tree.now) state.old state.new result }
 {
     match target_of(tree, target) {
         Target::Name => {
@@ -268,7 +285,8 @@ pub fn row_assign_with(
     value: NodeId,
     scope: Scope,
 ) -> Result<Result<Next, Remaining>, StepFault>
-    ensures { IfOk result (λ r. DoesOrComes (nodes_of tree.now) (row_assign_with operator target value scope) state.old state.new r) }
+    ensures does { IfOk result (λ r. DoesOrComes (nodes_of tree.now) (row_assign_with operator target value scope) state.old state.new r) }
+    ensures closed { IsClosed (nodes_of tree.now) state.old → ScopeFits (nodes_of tree.now) state.old.heap.cells scope → LastsWith (LeftFits (nodes_of tree.now)) (nodes_of tree.now) state.old state.new result }
 {
     match target_of(tree, target) {
         Target::Name => {

@@ -7,6 +7,8 @@ ghost use Rattle.js_semantics.specs.Expressions.{compute};
 ghost use Rattle.js_operators.specs.Answers.{computed_of};
 ghost use Rattle.js_machine.specs.Does.{Does};
 ghost use Rattle.js_step_expr.specs.Settling.{Settles};
+ghost use Rattle.js_machine.specs.Closed.{GoesOn, IsClosed, Lasts};
+ghost use Rattle.js_step_expr.specs.Fitting.{AnswerFits, LastsWith, SettledFits};
 
 use js_machine::{Next, State, stopped};
 use js_operators::Answer;
@@ -17,7 +19,8 @@ use world_log::Stop;
 
 /// Makes a text: its units are counted, or the world stops where they would pass the limit.
 pub fn make_text(state: &mut State, text: Units) -> Result<Value, Next>
-    ensures { (nodes : List kind.Node) (k : values.Value ℕ → Prog ℕ) → Settles nodes (make_text text k) k state.old state.new result }
+    ensures does { (nodes : List kind.Node) (k : values.Value ℕ → Prog ℕ) → Settles nodes (make_text text k) k state.old state.new result }
+    ensures closed { (nodes : List kind.Node) → IsClosed nodes state.old → GoesOn nodes state.old state.new × SettledFits state.new.heap.cells result }
 {
     if state.count_units(text.len()) {
         Ok(Value::Str(text))
@@ -32,7 +35,8 @@ pub fn make_text(state: &mut State, text: Units) -> Result<Value, Next>
 /// # Errors
 /// `Memory` where there is none, `Dangling` where the prototype of errors stands nowhere.
 pub fn settle(state: &mut State, answer: Answer) -> Result<Result<Value, Next>, StepFault>
-    ensures { (nodes : List kind.Node) (k : values.Value ℕ → Prog ℕ) → IfOk result (λ settled. Settles nodes (compute (computed_of answer) k) k state.old state.new settled) }
+    ensures does { (nodes : List kind.Node) (k : values.Value ℕ → Prog ℕ) → IfOk result (λ settled. Settles nodes (compute (computed_of answer) k) k state.old state.new settled) }
+    ensures closed { (nodes : List kind.Node) → IsClosed nodes state.old → AnswerFits state.old.heap.cells answer → LastsWith SettledFits nodes state.old state.new result }
 {
     match answer {
         Answer::Is(value) => Ok(Ok(value)),
@@ -46,7 +50,8 @@ pub fn settle(state: &mut State, answer: Answer) -> Result<Result<Value, Next>, 
 /// # Errors
 /// `Memory` where there is none, `Dangling` where the prototype of errors stands nowhere.
 pub fn finish(state: &mut State, answer: Answer) -> Result<Next, StepFault>
-    ensures { (nodes : List kind.Node) → IfOk result (λ next. Does nodes 6 (compute (computed_of answer) (λ v. give v)) state.old state.new next) }
+    ensures does { (nodes : List kind.Node) → IfOk result (λ next. Does nodes 6 (compute (computed_of answer) (λ v. give v)) state.old state.new next) }
+    ensures closed { (nodes : List kind.Node) → IsClosed nodes state.old → AnswerFits state.old.heap.cells answer → Lasts nodes state.old state.new result }
 {
     match settle(state, answer)? {
         Ok(value) => state.give(Outcome::Normal(value)),

@@ -1,5 +1,5 @@
 //! Template literals (ECMA-262, 13.2.8).
-ghost use Rattle.std.specs.Prelude.{◌≡◌, ◌++◌, [], drop, slice_get, List, IfOk};
+ghost use Rattle.std.specs.Prelude.{◌≡◌, ◌++◌, [], drop, slice_get, List, IfOk, IfErr};
 ghost use Rattle.js_tree.specs.declared.node.Node as kind;
 ghost use Rattle.js_names.specs.Patterns.{nodes_of};
 ghost use Rattle.js_semantics.specs.Prog.{give, make_text};
@@ -7,6 +7,7 @@ ghost use Rattle.js_semantics.specs.Expressions.{first_text, row_template, templ
 ghost use Rattle.js_machine.specs.Parts.{parts_of, texts_of};
 ghost use Rattle.js_machine.specs.Does.{Does};
 ghost use Rattle.js_machine.specs.Frames.{operand_rest};
+ghost use Rattle.js_machine.specs.Closed.{IsClosed, Lasts, ScopeFits, ValueFits};
 
 use crate::entering::enter_operand;
 use crate::settling::finish;
@@ -65,7 +66,8 @@ fn parts_of(tree: &Tree, node: NodeId) -> &[NodeId]
 
 // What is joined, with a text behind it.
 fn joined(alloc: Global, before: Items<u16>, text: &Units) -> Result<Items<u16>, StepFault>
-    ensures { IfOk result (λ joined. joined ≡ before ++ text.now) }
+    ensures is { IfOk result (λ joined. joined ≡ before ++ text.now) }
+    ensures closed { IfErr result (λ fault. fault ≡ StepFault.Memory) }
 {
     let mut joined = before;
     joined.append(Items::from_slice(alloc, text.as_slice())?)?;
@@ -79,7 +81,8 @@ fn with_text(
     texts: &[Units],
     place: usize,
 ) -> Result<Items<u16>, StepFault>
-    ensures { IfOk result (λ joined. joined ≡ before ++ first_text (drop place texts.now)) }
+    ensures is { IfOk result (λ joined. joined ≡ before ++ first_text (drop place texts.now)) }
+    ensures closed { IfErr result (λ fault. fault ≡ StepFault.Memory) }
 {
     match at(texts, place) {
         Some(text) => joined(alloc, before, text),
@@ -90,7 +93,8 @@ fn with_text(
 // Gives the text of a template.
 #[tactic(auto, unfolding(js_semantics::specs::Prog::make_text, js_semantics::specs::Expressions::compute))]
 fn give_text(state: &mut State, units: &[u16]) -> Result<Next, StepFault>
-    ensures { (nodes : List kind.Node) → IfOk result (λ next. Does nodes 6 (make_text units.now (λ v. give v)) state.old state.new next) }
+    ensures does { (nodes : List kind.Node) → IfOk result (λ next. Does nodes 6 (make_text units.now (λ v. give v)) state.old state.new next) }
+    ensures closed { (nodes : List kind.Node) → IsClosed nodes state.old → Lasts nodes state.old state.new result }
 {
     match Units::of_units(state.alloc, units) {
         Ok(text) => finish(state, Answer::Makes(text)),
@@ -108,7 +112,8 @@ fn template_from(
     before: Items<u16>,
     scope: Scope,
 ) -> Result<Next, StepFault>
-    ensures { IfOk result (λ next. Does (nodes_of tree.now) 6 (template_from before (drop place (texts_of (slice_get (nodes_of tree.now) node.0))) (drop place (parts_of (slice_get (nodes_of tree.now) node.0))) scope) state.old state.new next) }
+    ensures does { IfOk result (λ next. Does (nodes_of tree.now) 6 (template_from before (drop place (texts_of (slice_get (nodes_of tree.now) node.0))) (drop place (parts_of (slice_get (nodes_of tree.now) node.0))) scope) state.old state.new next) }
+    ensures closed { IsClosed (nodes_of tree.now) state.old → ScopeFits (nodes_of tree.now) state.old.heap.cells scope → Lasts (nodes_of tree.now) state.old state.new result }
 {
     let before = with_text(state.alloc, before, texts_of(tree, node), place)?;
     match at(parts_of(tree, node), place) {
@@ -134,7 +139,8 @@ pub fn row_template(
     node: NodeId,
     scope: Scope,
 ) -> Result<Next, StepFault>
-    ensures { IfOk result (λ next. Does (nodes_of tree.now) 6 (row_template (texts_of (slice_get (nodes_of tree.now) node.0)) (parts_of (slice_get (nodes_of tree.now) node.0)) scope) state.old state.new next) }
+    ensures does { IfOk result (λ next. Does (nodes_of tree.now) 6 (row_template (texts_of (slice_get (nodes_of tree.now) node.0)) (parts_of (slice_get (nodes_of tree.now) node.0)) scope) state.old state.new next) }
+    ensures closed { IsClosed (nodes_of tree.now) state.old → ScopeFits (nodes_of tree.now) state.old.heap.cells scope → Lasts (nodes_of tree.now) state.old state.new result }
 {
     template_from(state, tree, node, 0, Items::new(state.alloc), scope)
 }
@@ -150,7 +156,8 @@ pub fn template_part(
     scope: Scope,
     value: Value,
 ) -> Result<Next, StepFault>
-    ensures { IfOk result (λ next. Does (nodes_of tree.now) 6 (operand_rest (nodes_of tree.now) (OperandFrame.TemplatePart node place before scope) value) state.old state.new next) }
+    ensures does { IfOk result (λ next. Does (nodes_of tree.now) 6 (operand_rest (nodes_of tree.now) (OperandFrame.TemplatePart node place before scope) value) state.old state.new next) }
+    ensures closed { IsClosed (nodes_of tree.now) state.old → ScopeFits (nodes_of tree.now) state.old.heap.cells scope → ValueFits state.old.heap.cells value → Lasts (nodes_of tree.now) state.old state.new result }
 {
     match primitive_text(state.alloc, &value)? {
         Some(text) => {
