@@ -1,6 +1,14 @@
 use Rattle.js_semantics.specs.Expressions.{row_and}
+use Rattle.std.proofs.lemmas.Result.{err_from_is_err_and}
 use Rattle.js_step_expr.proofs.choice.row_and.Goals as goal
 
-pub returns : goal.returns
+pub returns-clause-does : goal.returns-clause-does
 unfolding row_and
-returns c nodes = rw (c.in_ok-inner.ensures) at (c.enter_operand.ensures nodes)
+returns-clause-does c nodes = rw (c.in_ok-inner.ensures) at (c.enter_operand.ensures.does nodes)
+
+pub returns-in_err-inner-clause-closed : goal.returns-in_err-inner-clause-closed
+returns-in_err-inner-clause-closed c nodes closed scope =
+    let p = err_from_is_err_and c.from_residual.result c.from_residual.ensures.1 in rw (p.1, p.2) c.in_err-inner.ensures
+
+pub returns-clause-closed : goal.returns-clause-closed
+returns-clause-closed c nodes closed scope = c.enter_operand.ensures.closed nodes closed scope (rw c.in_ok-inner.ensures scope)

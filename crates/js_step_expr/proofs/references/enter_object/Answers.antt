@@ -1,4 +1,12 @@
+use Rattle.std.proofs.lemmas.Result.{err_from_is_err_and}
 use Rattle.js_step_expr.proofs.references.enter_object.Goals as goal
 
-pub returns : goal.returns
-returns c nodes = rw (c.in_ok-inner.ensures) at (c.enter.ensures.many nodes)
+pub returns-clause-does : goal.returns-clause-does
+returns-clause-does c nodes = rw (c.in_ok-inner.ensures) at (c.enter.ensures.many nodes)
+
+pub returns-in_err-inner-clause-closed : goal.returns-in_err-inner-clause-closed
+returns-in_err-inner-clause-closed c nodes closed named scope =
+    let p = err_from_is_err_and c.from_residual.result c.from_residual.ensures.1 in rw (p.1, p.2) c.in_err-inner.ensures
+
+pub returns-clause-closed : goal.returns-clause-closed
+returns-clause-closed c nodes closed named scope = c.enter.ensures.closed nodes closed (named, scope) (rw c.in_ok-inner.ensures scope)

@@ -1,0 +1,4 @@
+use Rattle.js_step_expr.proofs.entering.enter_operand.Goals as goal
+
+pub returns-clause-closed : goal.returns-clause-closed
+returns-clause-closed c nodes closed frame scope = c.enter.ensures.closed nodes closed frame scope
