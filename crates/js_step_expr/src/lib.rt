@@ -1,7 +1,7 @@
 //! The rows of operators and operands: what is evaluated, in which order, and what is done with the values.
 //!
 //! Each function that takes a state answers `Memory` where memory runs out, and `Dangling` where it meets a location that
-//! stands nowhere, to which no script comes.
+//! stands nowhere, to which no script comes: from a closed state it goes on to one, or answers `Memory`.
 #![tactic(auto)]
 
 mod after;
