@@ -1,5 +1,5 @@
 //! Operators between two operands (ECMA-262, 13.6 to 13.12).
-ghost use Rattle.std.specs.Prelude.{◌≢◌, ℕ, List, IfOk, MatchResult};
+ghost use Rattle.std.specs.Prelude.{◌≡◌, ◌≢◌, ℕ, List, IfOk, MatchResult};
 ghost use Rattle.world_heap.specs.declared.value.Value as values;
 ghost use Rattle.js_tree.specs.declared.node.Node as kind;
 ghost use Rattle.js_semantics.specs.Prog.{Prog};
