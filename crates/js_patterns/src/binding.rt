@@ -4,6 +4,9 @@ ghost use Rattle.js_names.specs.Patterns.{nodes_of};
 ghost use Rattle.js_semantics.specs.Prog.{Bind};
 ghost use Rattle.js_semantics.specs.Rows.{row};
 ghost use Rattle.js_semantics.specs.Statements.{pattern_of};
+ghost use Rattle.js_machine.specs.declared.frame.Frame.TheVariants.{OnValue};
+ghost use Rattle.js_machine.specs.declared.frame.ValueFrame.TheVariants.{Pattern};
+ghost use Rattle.js_machine.specs.Closed.{FrameFits, IsClosed, Lasts, ScopeFits, ValueFits};
 ghost use Rattle.js_machine.specs.Does.{Does};
 ghost use Rattle.js_machine.specs.Frames.{pattern_rest};
 
@@ -24,8 +27,9 @@ fn bind_kind(
     value: Value,
     scope: Scope,
 ) -> Result<Next, StepFault>
-    ensures { slice_get (nodes_of tree.now) node.0 ≡ Some here.now
+    ensures does { slice_get (nodes_of tree.now) node.0 ≡ Some here.now
         → IfOk result (λ next. Does (nodes_of tree.now) 6 (pattern_of (Some here.now) value scope) state.old state.new next) }
+    ensures closed { IsClosed (nodes_of tree.now) state.old → ValueFits state.old.heap.cells value → ScopeFits (nodes_of tree.now) state.old.heap.cells scope → Lasts (nodes_of tree.now) state.old state.new result }
 {
     match here {
         Node::BindName(name) => bind_name(state, name, value, scope),
@@ -53,6 +57,7 @@ pub fn bind_pattern(
 ) -> Result<Next, StepFault>
     ensures pattern { IfOk result (λ next. Does (nodes_of tree.now) 6 (pattern_of (slice_get (nodes_of tree.now) node.0) value scope) state.old state.new next) }
     ensures row { IfOk result (λ next. Does (nodes_of tree.now) 6 (row (Bind node value scope)) state.old state.new next) }
+    ensures closed { IsClosed (nodes_of tree.now) state.old → ValueFits state.old.heap.cells value → ScopeFits (nodes_of tree.now) state.old.heap.cells scope → Lasts (nodes_of tree.now) state.old state.new result }
 {
     match node_at(tree, node) {
         Some(here) => bind_kind(state, tree, node, here, value, scope),
@@ -71,7 +76,8 @@ pub fn pattern_frame(
     frame: PatternFrame,
     value: Value,
 ) -> Result<Next, StepFault>
-    ensures { IfOk result (λ next. Does (nodes_of tree.now) 6 (pattern_rest (nodes_of tree.now) frame value) state.old state.new next) }
+    ensures does { IfOk result (λ next. Does (nodes_of tree.now) 6 (pattern_rest (nodes_of tree.now) frame value) state.old state.new next) }
+    ensures closed { IsClosed (nodes_of tree.now) state.old → FrameFits (nodes_of tree.now) state.old.heap.cells (OnValue (Pattern frame)) → ValueFits state.old.heap.cells value → Lasts (nodes_of tree.now) state.old state.new result }
 {
     match frame {
         PatternFrame::PropertyDefault {

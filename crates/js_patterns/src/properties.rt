@@ -1,9 +1,10 @@
 //! Object patterns (ECMA-262, 14.3.3.1: PropertyBindingInitialization).
-ghost use Rattle.std.specs.Prelude.{◌≡◌, ◌+◌, ◌-◌, ◌^◌, ◌<◌, ◌∷◌, drop, slice_get, List, IfOk, Some};
+ghost use Rattle.std.specs.Prelude.{◌≡◌, ◌+◌, ◌-◌, ◌^◌, ◌<◌, ◌∷◌, drop, slice_get, List, IfOk, MatchResult, Some};
 ghost use Rattle.js_tree.specs.declared.node.Node as kind;
 ghost use Rattle.js_names.specs.Patterns.{nodes_of};
 ghost use Rattle.js_semantics.specs.Access.{bind_value, or_default};
 ghost use Rattle.js_semantics.specs.Statements.{bind_object, bind_properties};
+ghost use Rattle.js_machine.specs.Closed.{IsClosed, Lasts, ScopeFits, ValueFits};
 ghost use Rattle.js_machine.specs.Does.{Does};
 ghost use Rattle.js_machine.specs.Parts.{entries_of};
 ghost use Rattle.js_machine.specs.Frames.{after_rest, pattern_rest};
@@ -34,7 +35,8 @@ pub fn bind_object(
     value: Value,
     scope: Scope,
 ) -> Result<Next, StepFault>
-    ensures { IfOk result (λ next. Does (nodes_of tree.now) 6 (bind_object (entries_of (slice_get (nodes_of tree.now) node.0)) value scope) state.old state.new next) }
+    ensures does { IfOk result (λ next. Does (nodes_of tree.now) 6 (bind_object (entries_of (slice_get (nodes_of tree.now) node.0)) value scope) state.old state.new next) }
+    ensures closed { IsClosed (nodes_of tree.now) state.old → ValueFits state.old.heap.cells value → ScopeFits (nodes_of tree.now) state.old.heap.cells scope → Lasts (nodes_of tree.now) state.old state.new result }
 {
     if is_nullish(&value) {
         discard(value);
@@ -52,7 +54,7 @@ fn read_frame(
     of: &Value,
     scope: Scope,
 ) -> Result<AfterFrame, StepFault>
-    ensures { IfOk result (λ frame. frame ≡ AfterFrame.PropertyRead node at of.now scope) }
+    ensures { MatchResult result (λ frame. frame ≡ AfterFrame.PropertyRead node at of.now scope) (λ fault. fault ≡ StepFault.Memory) }
 {
     let of = of.copy(alloc)?;
     Ok(AfterFrame::PropertyRead {
@@ -73,8 +75,9 @@ fn read(
     of: Value,
     scope: Scope,
 ) -> Result<Next, StepFault>
-    ensures { (rest : List BindProperty) → drop at (entries_of (slice_get (nodes_of tree.now) node.0)) ≡ part.now ∷ rest
+    ensures does { (rest : List BindProperty) → drop at (entries_of (slice_get (nodes_of tree.now) node.0)) ≡ part.now ∷ rest
         → IfOk result (λ next. Does (nodes_of tree.now) 6 (bind_properties (part.now ∷ rest) of scope) state.old state.new next) }
+    ensures closed { IsClosed (nodes_of tree.now) state.old → ValueFits state.old.heap.cells of → ScopeFits (nodes_of tree.now) state.old.heap.cells scope → Lasts (nodes_of tree.now) state.old state.new result }
 {
     let frame = read_frame(state.alloc, node, at, &of, scope)?;
     get(state, tree, of, &part.key, frame)
@@ -90,7 +93,8 @@ pub fn bind_properties(
     of: Value,
     scope: Scope,
 ) -> Result<Next, StepFault>
-    ensures { IfOk result (λ next. Does (nodes_of tree.now) 6 (bind_properties (drop at (entries_of (slice_get (nodes_of tree.now) node.0))) of scope) state.old state.new next) }
+    ensures does { IfOk result (λ next. Does (nodes_of tree.now) 6 (bind_properties (drop at (entries_of (slice_get (nodes_of tree.now) node.0))) of scope) state.old state.new next) }
+    ensures closed { IsClosed (nodes_of tree.now) state.old → ValueFits state.old.heap.cells of → ScopeFits (nodes_of tree.now) state.old.heap.cells scope → Lasts (nodes_of tree.now) state.old state.new result }
 {
     match entry_at(tree, node, at) {
         Some(part) => read(state, tree, part, node, at, of, scope),
@@ -114,6 +118,7 @@ fn bind_property(
 ) -> Result<Next, StepFault>
     ensures some { (nodes : List kind.Node) → IfOk result (λ made. Does nodes 4 (bind_value bind value scope (bind_properties (drop next (entries_of (slice_get nodes node.0))) of scope)) state.old state.new made) }
     ensures many { (nodes : List kind.Node) → IfOk result (λ made. Does nodes 6 (bind_value bind value scope (bind_properties (drop next (entries_of (slice_get nodes node.0))) of scope)) state.old state.new made) }
+    ensures closed { (nodes : List kind.Node) → IsClosed nodes state.old → ValueFits state.old.heap.cells of → ScopeFits nodes state.old.heap.cells scope → ValueFits state.old.heap.cells value → Lasts nodes state.old state.new result }
 {
     let inner = copy_scope(state.alloc, &scope)?;
     let frame = PatternFrame::PropertyBound {
@@ -136,8 +141,9 @@ fn bind_or_default(
     value: Value,
 ) -> Result<Next, StepFault>
     requires { at < 2 ^ 64 - 1 }
-    ensures { (nodes : List kind.Node) → drop at (entries_of (slice_get nodes node.0)) ≡ part.now ∷ drop (at + 1) (entries_of (slice_get nodes node.0))
+    ensures does { (nodes : List kind.Node) → drop at (entries_of (slice_get nodes node.0)) ≡ part.now ∷ drop (at + 1) (entries_of (slice_get nodes node.0))
         → IfOk result (λ made. Does nodes 4 (or_default part.now.default value scope (λ y. bind_value part.now.bind y scope (bind_properties (drop (at + 1) (entries_of (slice_get nodes node.0))) of scope))) state.old state.new made) }
+    ensures closed { (nodes : List kind.Node) → IsClosed nodes state.old → ValueFits state.old.heap.cells of → ScopeFits nodes state.old.heap.cells scope → ValueFits state.old.heap.cells value → Lasts nodes state.old state.new result }
 {
     match default_of(&value, part.default) {
         Some(default) => {
@@ -166,7 +172,8 @@ pub fn after_property_read(
     scope: Scope,
     value: Value,
 ) -> Result<Next, StepFault>
-    ensures { IfOk result (λ made. Does (nodes_of tree.now) 4 (after_rest (nodes_of tree.now) (AfterFrame.PropertyRead node at of scope) value) state.old state.new made) }
+    ensures does { IfOk result (λ made. Does (nodes_of tree.now) 4 (after_rest (nodes_of tree.now) (AfterFrame.PropertyRead node at of scope) value) state.old state.new made) }
+    ensures closed { IsClosed (nodes_of tree.now) state.old → ValueFits state.old.heap.cells of → ScopeFits (nodes_of tree.now) state.old.heap.cells scope → ValueFits state.old.heap.cells value → Lasts (nodes_of tree.now) state.old state.new result }
 {
     match entry_at(tree, node, at) {
         Some(part) => bind_or_default(state, part, node, at, of, scope, value),
@@ -189,7 +196,8 @@ pub fn property_defaulted(
     scope: Scope,
     value: Value,
 ) -> Result<Next, StepFault>
-    ensures { IfOk result (λ made. Does (nodes_of tree.now) 6 (pattern_rest (nodes_of tree.now) (PatternFrame.PropertyDefault node at of scope) value) state.old state.new made) }
+    ensures does { IfOk result (λ made. Does (nodes_of tree.now) 6 (pattern_rest (nodes_of tree.now) (PatternFrame.PropertyDefault node at of scope) value) state.old state.new made) }
+    ensures closed { IsClosed (nodes_of tree.now) state.old → ValueFits state.old.heap.cells of → ScopeFits (nodes_of tree.now) state.old.heap.cells scope → ValueFits state.old.heap.cells value → Lasts (nodes_of tree.now) state.old state.new result }
 {
     match entry_at(tree, node, at) {
         Some(part) => bind_property(state, part.bind, node, at + 1, of, scope, value),

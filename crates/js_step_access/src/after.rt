@@ -1,6 +1,7 @@
 //! What follows the reading of a name or property (ECMA-262, 13.4 and 13.15).
-ghost use Rattle.std.specs.Prelude.{◌≡◌, IfOk, List, if◌then◌else◌};
+ghost use Rattle.std.specs.Prelude.{◌≡◌, IfOk, List, MatchResult, if◌then◌else◌};
 ghost use Rattle.js_tree.specs.declared.node.Node as kind;
+ghost use Rattle.js_machine.specs.Closed.{IsClosed, Lasts, PlaceFits, ScopeFits, ValueFits};
 ghost use Rattle.js_machine.specs.Does.{Does};
 ghost use Rattle.js_machine.specs.Frames.{after_rest, write_place};
 ghost use Rattle.js_names.specs.Patterns.{nodes_of};
@@ -18,7 +19,7 @@ use world_heap::Value;
 
 // The value of an update: the new number where the operator stands before its target, and else the old one.
 fn value_of(alloc: Global, before: bool, changed: &Value, number: i64) -> Result<Value, StepFault>
-    ensures { IfOk result (λ value. value ≡ (if before then changed.now else Value.Num number)) }
+    ensures { MatchResult result (λ value. value ≡ (if before then changed.now else Value.Num number)) (λ fault. fault ≡ StepFault.Memory) }
 {
     if before {
         Ok(changed.copy(alloc)?)
@@ -36,7 +37,8 @@ fn write_update(
     changed: Value,
     number: i64,
 ) -> Result<Next, StepFault>
-    ensures { IfOk result (λ next. Does (nodes_of tree.now) 4 (write_place (nodes_of tree.now) place changed (give (if before then changed else Value.Num number))) state.old state.new next) }
+    ensures does { IfOk result (λ next. Does (nodes_of tree.now) 4 (write_place (nodes_of tree.now) place changed (give (if before then changed else Value.Num number))) state.old state.new next) }
+    ensures closed { IsClosed (nodes_of tree.now) state.old → PlaceFits (nodes_of tree.now) state.old.heap.cells place → ValueFits state.old.heap.cells changed → ValueFits state.old.heap.cells (Value.Num number) → Lasts (nodes_of tree.now) state.old state.new result }
 {
     let value = value_of(state.alloc, before, &changed, number)?;
     write_place(state, tree, place, changed, value)
@@ -51,7 +53,8 @@ fn update(
     place: Place,
     number: i64,
 ) -> Result<Next, StepFault>
-    ensures { IfOk result (λ next. Does (nodes_of tree.now) 4 (updated operator before (Value.Num number) (λ changed p. write_place (nodes_of tree.now) place changed p)) state.old state.new next) }
+    ensures does { IfOk result (λ next. Does (nodes_of tree.now) 4 (updated operator before (Value.Num number) (λ changed p. write_place (nodes_of tree.now) place changed p)) state.old state.new next) }
+    ensures closed { IsClosed (nodes_of tree.now) state.old → PlaceFits (nodes_of tree.now) state.old.heap.cells place → ValueFits state.old.heap.cells (Value.Num number) → Lasts (nodes_of tree.now) state.old state.new result }
 {
     let answer = moved(operator, number);
     match settle(state, answer)? {
@@ -73,7 +76,8 @@ pub fn after_update(
     place: Place,
     old: Value,
 ) -> Result<Next, StepFault>
-    ensures { IfOk result (λ next. Does (nodes_of tree.now) 4 (after_rest (nodes_of tree.now) (AfterFrame.Update operator before place) old) state.old state.new next) }
+    ensures does { IfOk result (λ next. Does (nodes_of tree.now) 4 (after_rest (nodes_of tree.now) (AfterFrame.Update operator before place) old) state.old state.new next) }
+    ensures closed { IsClosed (nodes_of tree.now) state.old → PlaceFits (nodes_of tree.now) state.old.heap.cells place → ValueFits state.old.heap.cells old → Lasts (nodes_of tree.now) state.old state.new result }
 {
     match old {
         Value::Num(number) => update(state, tree, operator, before, place, number),
@@ -94,7 +98,8 @@ pub fn after_assign_by(
     scope: Scope,
     old: Value,
 ) -> Result<Next, StepFault>
-    ensures { (nodes : List kind.Node) → IfOk result (λ next. Does nodes 4 (after_rest nodes (AfterFrame.AssignBy operator value place scope) old) state.old state.new next) }
+    ensures does { (nodes : List kind.Node) → IfOk result (λ next. Does nodes 4 (after_rest nodes (AfterFrame.AssignBy operator value place scope) old) state.old state.new next) }
+    ensures closed { (nodes : List kind.Node) → IsClosed nodes state.old → PlaceFits nodes state.old.heap.cells place → ScopeFits nodes state.old.heap.cells scope → ValueFits state.old.heap.cells old → Lasts nodes state.old state.new result }
 {
     let frame = OperandFrame::AssignOperand {
         operator,

@@ -1,6 +1,7 @@
 //! What operators leave, done (ECMA-262, 13.3, 13.4, 13.5.3, 13.10.2 and 13.15).
 ghost use Rattle.std.specs.Prelude.{IfOk};
 ghost use Rattle.js_names.specs.Patterns.{nodes_of};
+ghost use Rattle.js_machine.specs.Closed.{IsClosed, Lasts, PlaceFits, ValueFits};
 ghost use Rattle.js_machine.specs.Does.{Does};
 ghost use Rattle.js_step_expr.specs.Left.{left_of};
 
@@ -16,7 +17,8 @@ use world_heap::Value;
 
 // Writes a place, and gives what was written.
 fn write(state: &mut State, tree: &Tree, place: Place, value: Value) -> Result<Next, StepFault>
-    ensures { IfOk result (λ next. Does (nodes_of tree.now) 6 (left_of (nodes_of tree.now) (Remaining.Write place value)) state.old state.new next) }
+    ensures does { IfOk result (λ next. Does (nodes_of tree.now) 6 (left_of (nodes_of tree.now) (Remaining.Write place value)) state.old state.new next) }
+    ensures closed { IsClosed (nodes_of tree.now) state.old → PlaceFits (nodes_of tree.now) state.old.heap.cells place → ValueFits state.old.heap.cells value → Lasts (nodes_of tree.now) state.old state.new result }
 {
     let result_value = value.copy(state.alloc)?;
     write_place(state, tree, place, value, result_value)
@@ -24,7 +26,8 @@ fn write(state: &mut State, tree: &Tree, place: Place, value: Value) -> Result<N
 
 /// Does what an operator has left: a name or property is read, written or removed, or `instanceof` told.
 pub fn finish(state: &mut State, tree: &Tree, remaining: Remaining) -> Result<Next, StepFault>
-    ensures { IfOk result (λ next. Does (nodes_of tree.now) 6 (left_of (nodes_of tree.now) remaining) state.old state.new next) }
+    ensures does { IfOk result (λ next. Does (nodes_of tree.now) 6 (left_of (nodes_of tree.now) remaining) state.old state.new next) }
+    ensures closed { IsClosed (nodes_of tree.now) state.old → RemainingFits (nodes_of tree.now) state.old.heap.cells remaining → Lasts (nodes_of tree.now) state.old state.new result }
 {
     match remaining {
         Remaining::Read { node, env, frame } => read_name(state, tree, node, env, frame),

@@ -1,7 +1,9 @@
 //! The operator `instanceof` (ECMA-262, 13.10.2).
-ghost use Rattle.std.specs.Prelude.{◌≡◌, IfOk, List, codes};
+ghost use Rattle.std.specs.Prelude.{◌≡◌, IfOk, List, MatchResult, codes};
+ghost use Rattle.world_heap.specs.Over.{OptionOver};
 ghost use Rattle.js_tree.specs.declared.node.Node as kind;
 ghost use Rattle.js_step_expr.specs.Left.{left_of};
+ghost use Rattle.js_machine.specs.Closed.{IsClosed, Lasts, PlaceFits, ValueFits};
 ghost use Rattle.js_machine.specs.Does.{Does};
 ghost use Rattle.js_machine.specs.Frames.{after_rest};
 ghost use Rattle.js_names.specs.Patterns.{nodes_of};
@@ -38,7 +40,8 @@ pub fn instance_of(
     right: Value,
     place: Option<Place>,
 ) -> Result<Next, StepFault>
-    ensures { IfOk result (λ next. Does (nodes_of tree.now) 6 (left_of (nodes_of tree.now) (Remaining.Instance left right place)) state.old state.new next) }
+    ensures does { IfOk result (λ next. Does (nodes_of tree.now) 6 (left_of (nodes_of tree.now) (Remaining.Instance left right place)) state.old state.new next) }
+    ensures closed { IsClosed (nodes_of tree.now) state.old → ValueFits state.old.heap.cells left → ValueFits state.old.heap.cells right → OptionOver (PlaceFits (nodes_of tree.now) state.old.heap.cells) place → Lasts (nodes_of tree.now) state.old state.new result }
 {
     if !is_callable_value(&state.heap, &right) {
         discard(left);
@@ -52,7 +55,7 @@ pub fn instance_of(
 
 // The text `prototype`, as a key.
 fn prototype_key(alloc: Global) -> Result<Units, StepFault>
-    ensures { IfOk result (λ key. key ≡ codes "prototype") }
+    ensures { MatchResult result (λ key. key ≡ codes "prototype") (λ fault. fault ≡ StepFault.Memory) }
 {
     Ok(short_text(alloc, "prototype")?)
 }
@@ -60,7 +63,8 @@ fn prototype_key(alloc: Global) -> Result<Units, StepFault>
 /// `instanceof` with the `prototype` of its right side: whether that is on the chain of prototypes above the left side. A
 /// `prototype` that is no object is the error `NotAnObject`. The cost is linear in the chain.
 pub fn after_instance(state: &mut State, left: Value, prototype: Value) -> Result<Next, StepFault>
-    ensures { (nodes : List kind.Node) → IfOk result (λ next. Does nodes 4 (after_rest nodes (AfterFrame.Instance left) prototype) state.old state.new next) }
+    ensures does { (nodes : List kind.Node) → IfOk result (λ next. Does nodes 4 (after_rest nodes (AfterFrame.Instance left) prototype) state.old state.new next) }
+    ensures closed { (nodes : List kind.Node) → IsClosed nodes state.old → ValueFits state.old.heap.cells left → ValueFits state.old.heap.cells prototype → Lasts nodes state.old state.new result }
 {
     match instance_in(&state.heap, &left, &prototype) {
         Some(told) => {
@@ -84,7 +88,8 @@ pub fn after_assign_instance(
     place: Place,
     prototype: Value,
 ) -> Result<Next, StepFault>
-    ensures { IfOk result (λ next. Does (nodes_of tree.now) 4 (after_rest (nodes_of tree.now) (AfterFrame.AssignInstance left place) prototype) state.old state.new next) }
+    ensures does { IfOk result (λ next. Does (nodes_of tree.now) 4 (after_rest (nodes_of tree.now) (AfterFrame.AssignInstance left place) prototype) state.old state.new next) }
+    ensures closed { IsClosed (nodes_of tree.now) state.old → ValueFits state.old.heap.cells left → PlaceFits (nodes_of tree.now) state.old.heap.cells place → ValueFits state.old.heap.cells prototype → Lasts (nodes_of tree.now) state.old state.new result }
 {
     match instance_in(&state.heap, &left, &prototype) {
         Some(told) => {

@@ -1,8 +1,10 @@
 //! The texts of keys and names, which are found in the tree.
-ghost use Rattle.std.specs.Prelude.{◌≡◌, IfOk, IfSome, Some, slice_get};
+ghost use Rattle.std.specs.Prelude.{◌≡◌, IfErr, IfNone, IfOk, IfSome, MatchResult, Some, slice_get};
+ghost use Rattle.js_machine.specs.Closed.{HasName, IsNamed};
 ghost use Rattle.js_machine.specs.Frames.{key_text};
 ghost use Rattle.js_machine.specs.Parts.{name_of};
 ghost use Rattle.js_names.specs.Patterns.{nodes_of};
+ghost use Rattle.js_step_access.specs.Fitting.{KeyFits};
 
 use js_machine::{Key, node_at};
 use js_semantics::StepFault;
@@ -13,7 +15,8 @@ use wl_text::Units;
 // The name of a `Name` or `Dot` node.
 #[tactic(auto, unfolding(js_machine::specs::Parts::name_of))]
 fn name_in(node: &Node) -> Option<&Units>
-    ensures { IfSome result (λ name. name.now ≡ name_of (Some node.now)) }
+    ensures is { IfSome result (λ name. name.now ≡ name_of (Some node.now)) }
+    ensures named { IfNone result (HasName (Some node.now) → ⊥) }
 {
     match node {
         Node::Name(name) => Some(name),
@@ -24,7 +27,8 @@ fn name_in(node: &Node) -> Option<&Units>
 
 /// The name that a `Name` or `Dot` node of the tree has (ECMA-262, 13.1 and 13.3.2); `None` where there is no such node.
 pub fn name_at(tree: &Tree, node: NodeId) -> Option<&Units>
-    ensures { IfSome result (λ name. name.now ≡ name_of (slice_get (nodes_of tree.now) node.0)) }
+    ensures is { IfSome result (λ name. name.now ≡ name_of (slice_get (nodes_of tree.now) node.0)) }
+    ensures named { IfNone result (IsNamed (nodes_of tree.now) node → ⊥) }
 {
     match node_at(tree, node) {
         Some(node) => name_in(node),
@@ -34,7 +38,8 @@ pub fn name_at(tree: &Tree, node: NodeId) -> Option<&Units>
 
 /// The text of a key; `None` where it names a node that has none.
 pub fn key_units<'a>(tree: &'a Tree, key: &'a Key) -> Option<&'a Units>
-    ensures { IfSome result (λ text. text.now ≡ key_text (nodes_of tree.now) key.now) }
+    ensures is { IfSome result (λ text. text.now ≡ key_text (nodes_of tree.now) key.now) }
+    ensures named { IfNone result (KeyFits (nodes_of tree.now) key.now → ⊥) }
 {
     match key {
         Key::Named(node) => name_at(tree, *node),
@@ -47,7 +52,7 @@ pub fn key_units<'a>(tree: &'a Tree, key: &'a Key) -> Option<&'a Units>
 /// # Errors
 /// `Memory` where there is none.
 pub fn copy_key(alloc: Global, key: &Key) -> Result<Key, StepFault>
-    ensures { IfOk result (λ copy. copy ≡ key.now) }
+    ensures { MatchResult result (λ copy. copy ≡ key.now) (λ fault. fault ≡ StepFault.Memory) }
 {
     match key {
         Key::Named(node) => Ok(Key::Named(*node)),
@@ -57,7 +62,8 @@ pub fn copy_key(alloc: Global, key: &Key) -> Result<Key, StepFault>
 
 // The text of a key, as one of its own.
 pub(crate) fn own_text(alloc: Global, tree: &Tree, key: Key) -> Result<Units, StepFault>
-    ensures { IfOk result (λ text. text ≡ key_text (nodes_of tree.now) key) }
+    ensures is { IfOk result (λ text. text ≡ key_text (nodes_of tree.now) key) }
+    ensures named { KeyFits (nodes_of tree.now) key → IfErr result (λ fault. fault ≡ StepFault.Memory) }
 {
     match key {
         Key::Named(node) => match name_at(tree, node) {

@@ -1,8 +1,10 @@
 //! Removing a property (ECMA-262, 13.5.1.2).
-ghost use Rattle.std.specs.Prelude.{◌≡◌, List, IfOk, not, true};
+ghost use Rattle.std.specs.Prelude.{◌≡◌, List, IfOk, MatchResult, nat_eq, not, true};
 ghost use Rattle.js_tree.specs.declared.node.Node as kind;
 ghost use Rattle.world_heap.specs.declared.value.Value.TheVariants.{Ref};
+ghost use Rattle.world_heap.specs.Heaps.{IsNoEnv};
 ghost use Rattle.js_semantics.specs.Access.{delete};
+ghost use Rattle.js_machine.specs.Closed.{IsClosed, Lasts, ValueFits};
 ghost use Rattle.js_machine.specs.Does.{Does};
 ghost use Rattle.js_step_access.specs.Removing.{is_kept, removed};
 
@@ -16,7 +18,7 @@ use world_heap::{Loc, Value};
 
 // Whether a property of a string stays, as its length and its units do.
 fn is_kept(alloc: Global, text: &Units, key: &Units) -> Result<bool, StepFault>
-    ensures { IfOk result (λ kept. kept ≡ is_kept text.now key.now) }
+    ensures { MatchResult result (λ kept. kept ≡ is_kept text.now key.now) (λ fault. fault ≡ StepFault.Memory) }
 {
     let length = short_text(alloc, "length")?;
     if same_text(key, &length) {
@@ -27,7 +29,8 @@ fn is_kept(alloc: Global, text: &Units, key: &Units) -> Result<bool, StepFault>
 
 // Gives true where a property is gone; where it stays, that is an error.
 fn settle(state: &mut State, gone: bool) -> Result<Next, StepFault>
-    ensures { (nodes : List kind.Node) → IfOk result (λ next. Does nodes 6 (removed gone) state.old state.new next) }
+    ensures does { (nodes : List kind.Node) → IfOk result (λ next. Does nodes 6 (removed gone) state.old state.new next) }
+    ensures closed { (nodes : List kind.Node) → IsClosed nodes state.old → Lasts nodes state.old state.new result }
 {
     if gone {
         state.give(Outcome::Normal(Value::Bool(true)))
@@ -38,7 +41,8 @@ fn settle(state: &mut State, gone: bool) -> Result<Next, StepFault>
 
 // Removes a property of what stands at a location.
 fn delete_at(state: &mut State, loc: Loc, key: &Units) -> Result<Next, StepFault>
-    ensures { (nodes : List kind.Node) → IfOk result (λ next. Does nodes 6 (delete (Ref loc) key.now) state.old state.new next) }
+    ensures does { (nodes : List kind.Node) → IfOk result (λ next. Does nodes 6 (delete (Ref loc) key.now) state.old state.new next) }
+    ensures closed { (nodes : List kind.Node) → IsClosed nodes state.old → IsNoEnv nat_eq state.old.heap.cells loc → Lasts nodes state.old state.new result }
 {
     if !is_cell(&state.heap, loc) {
         return Err(StepFault::Dangling);
@@ -49,7 +53,8 @@ fn delete_at(state: &mut State, loc: Loc, key: &Units) -> Result<Next, StepFault
 
 // Removes a property of a string, which has those alone that stay.
 fn delete_unit(state: &mut State, text: &Units, key: &Units) -> Result<Next, StepFault>
-    ensures { (nodes : List kind.Node) → IfOk result (λ next. Does nodes 6 (delete (Value.Str text.now) key.now) state.old state.new next) }
+    ensures does { (nodes : List kind.Node) → IfOk result (λ next. Does nodes 6 (delete (Value.Str text.now) key.now) state.old state.new next) }
+    ensures closed { (nodes : List kind.Node) → IsClosed nodes state.old → Lasts nodes state.old state.new result }
 {
     let kept = is_kept(state.alloc, text, key)?;
     settle(state, !kept)
@@ -62,7 +67,8 @@ fn delete_unit(state: &mut State, text: &Units, key: &Units) -> Result<Next, Ste
 /// # Errors
 /// `Memory` where there is none; `Dangling` where the value's location stands nowhere.
 pub fn delete(state: &mut State, of: &Value, key: &Units) -> Result<Next, StepFault>
-    ensures { (nodes : List kind.Node) → IfOk result (λ next. Does nodes 6 (delete of.now key.now) state.old state.new next) }
+    ensures does { (nodes : List kind.Node) → IfOk result (λ next. Does nodes 6 (delete of.now key.now) state.old state.new next) }
+    ensures closed { (nodes : List kind.Node) → IsClosed nodes state.old → ValueFits state.old.heap.cells of.now → Lasts nodes state.old state.new result }
 {
     match of {
         Value::Undefined => state.throw(Fault::NotAnObject),

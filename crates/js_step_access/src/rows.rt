@@ -3,6 +3,9 @@ ghost use Rattle.std.specs.Prelude.{IfOk};
 ghost use Rattle.js_names.specs.Patterns.{nodes_of};
 ghost use Rattle.js_semantics.specs.Expressions.{row_assign_with, row_typeof, row_update};
 ghost use Rattle.js_machine.specs.Frames.{operand_rest, property_rest};
+ghost use Rattle.js_machine.specs.declared.frame.Frame.TheVariants.{OnValue};
+ghost use Rattle.js_machine.specs.declared.frame.ValueFrame.TheVariants.{Operand, Property};
+ghost use Rattle.js_machine.specs.Closed.{FrameFits, IsClosed, Lasts, ScopeFits, ValueFits};
 ghost use Rattle.js_machine.specs.Does.{Does};
 
 use crate::finishing::finish;
@@ -20,7 +23,8 @@ pub fn row_update(
     before: bool,
     scope: Scope,
 ) -> Result<Next, StepFault>
-    ensures { IfOk result (λ next. Does (nodes_of tree.now) 6 (row_update operator target before scope) state.old state.new next) }
+    ensures does { IfOk result (λ next. Does (nodes_of tree.now) 6 (row_update operator target before scope) state.old state.new next) }
+    ensures closed { IsClosed (nodes_of tree.now) state.old → ScopeFits (nodes_of tree.now) state.old.heap.cells scope → Lasts (nodes_of tree.now) state.old state.new result }
 {
     match js_step_expr::row_update(state, tree, operator, target, before, scope)? {
         Ok(next) => Ok(next),
@@ -37,7 +41,8 @@ pub fn row_assign_with(
     value: NodeId,
     scope: Scope,
 ) -> Result<Next, StepFault>
-    ensures { IfOk result (λ next. Does (nodes_of tree.now) 6 (row_assign_with operator target value scope) state.old state.new next) }
+    ensures does { IfOk result (λ next. Does (nodes_of tree.now) 6 (row_assign_with operator target value scope) state.old state.new next) }
+    ensures closed { IsClosed (nodes_of tree.now) state.old → ScopeFits (nodes_of tree.now) state.old.heap.cells scope → Lasts (nodes_of tree.now) state.old state.new result }
 {
     match js_step_expr::row_assign_with(state, tree, operator, target, value, scope)? {
         Ok(next) => Ok(next),
@@ -52,7 +57,8 @@ pub fn row_typeof(
     operand: NodeId,
     scope: Scope,
 ) -> Result<Next, StepFault>
-    ensures { IfOk result (λ next. Does (nodes_of tree.now) 6 (row_typeof operand scope) state.old state.new next) }
+    ensures does { IfOk result (λ next. Does (nodes_of tree.now) 6 (row_typeof operand scope) state.old state.new next) }
+    ensures closed { IsClosed (nodes_of tree.now) state.old → ScopeFits (nodes_of tree.now) state.old.heap.cells scope → Lasts (nodes_of tree.now) state.old state.new result }
 {
     match js_step_expr::row_typeof(state, tree, operand, scope)? {
         Ok(next) => Ok(next),
@@ -67,7 +73,8 @@ pub fn operand(
     frame: OperandFrame,
     value: Value,
 ) -> Result<Next, StepFault>
-    ensures { IfOk result (λ next. Does (nodes_of tree.now) 6 (operand_rest (nodes_of tree.now) frame value) state.old state.new next) }
+    ensures does { IfOk result (λ next. Does (nodes_of tree.now) 6 (operand_rest (nodes_of tree.now) frame value) state.old state.new next) }
+    ensures closed { IsClosed (nodes_of tree.now) state.old → FrameFits (nodes_of tree.now) state.old.heap.cells (OnValue (Operand frame)) → ValueFits state.old.heap.cells value → Lasts (nodes_of tree.now) state.old state.new result }
 {
     match js_step_expr::operand(state, tree, frame, value)? {
         Ok(next) => Ok(next),
@@ -82,7 +89,8 @@ pub fn property(
     frame: PropertyFrame,
     value: Value,
 ) -> Result<Next, StepFault>
-    ensures { IfOk result (λ next. Does (nodes_of tree.now) 6 (property_rest (nodes_of tree.now) frame value) state.old state.new next) }
+    ensures does { IfOk result (λ next. Does (nodes_of tree.now) 6 (property_rest (nodes_of tree.now) frame value) state.old state.new next) }
+    ensures closed { IsClosed (nodes_of tree.now) state.old → FrameFits (nodes_of tree.now) state.old.heap.cells (OnValue (Property frame)) → ValueFits state.old.heap.cells value → Lasts (nodes_of tree.now) state.old state.new result }
 {
     match js_step_expr::property(state, frame, value)? {
         Ok(next) => Ok(next),

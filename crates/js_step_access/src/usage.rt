@@ -1,9 +1,11 @@
 //! What is done with a property, once its object and key are evaluated (ECMA-262, 13.3, 13.4 and 13.15).
-ghost use Rattle.std.specs.Prelude.{◌≡◌, IfOk};
+ghost use Rattle.std.specs.Prelude.{◌≡◌, IfOk, MatchResult};
 ghost use Rattle.js_semantics.specs.Access.{delete, get};
+ghost use Rattle.js_machine.specs.Closed.{AfterFits, IsClosed, Lasts, ScopeFits, ValueFits};
 ghost use Rattle.js_machine.specs.Does.{Does};
 ghost use Rattle.js_machine.specs.Frames.{after_rest, key_text, use_rest};
 ghost use Rattle.js_names.specs.Patterns.{nodes_of};
+ghost use Rattle.js_step_access.specs.Fitting.{KeyFits};
 
 use crate::keys::{copy_key, key_units};
 use crate::removal::delete;
@@ -23,7 +25,8 @@ fn read(
     key: &Key,
     frame: AfterFrame,
 ) -> Result<Next, StepFault>
-    ensures { IfOk result (λ next. Does (nodes_of tree.now) 6 (get base (key_text (nodes_of tree.now) key.now) (λ v. after_rest (nodes_of tree.now) frame v)) state.old state.new next) }
+    ensures does { IfOk result (λ next. Does (nodes_of tree.now) 6 (get base (key_text (nodes_of tree.now) key.now) (λ v. after_rest (nodes_of tree.now) frame v)) state.old state.new next) }
+    ensures closed { IsClosed (nodes_of tree.now) state.old → ValueFits state.old.heap.cells base → KeyFits (nodes_of tree.now) key.now → AfterFits (nodes_of tree.now) state.old.heap.cells frame → Lasts (nodes_of tree.now) state.old state.new result }
 {
     match key_units(tree, key) {
         Some(text) => get(state, tree, base, text, frame),
@@ -37,7 +40,7 @@ fn read(
 
 // The property of a value under a key, as a place that may be written.
 fn place_of(alloc: Global, base: &Value, key: &Key) -> Result<Place, StepFault>
-    ensures { IfOk result (λ place. place ≡ Place.Property base.now key.now) }
+    ensures { MatchResult result (λ place. place ≡ Place.Property base.now key.now) (λ fault. fault ≡ StepFault.Memory) }
 {
     let key = copy_key(alloc, key)?;
     let base = base.copy(alloc)?;
@@ -46,7 +49,8 @@ fn place_of(alloc: Global, base: &Value, key: &Key) -> Result<Place, StepFault>
 
 // Removes a property under a key.
 fn remove(state: &mut State, tree: &Tree, base: &Value, key: &Key) -> Result<Next, StepFault>
-    ensures { IfOk result (λ next. Does (nodes_of tree.now) 6 (delete base.now (key_text (nodes_of tree.now) key.now)) state.old state.new next) }
+    ensures does { IfOk result (λ next. Does (nodes_of tree.now) 6 (delete base.now (key_text (nodes_of tree.now) key.now)) state.old state.new next) }
+    ensures closed { IsClosed (nodes_of tree.now) state.old → ValueFits state.old.heap.cells base.now → KeyFits (nodes_of tree.now) key.now → Lasts (nodes_of tree.now) state.old state.new result }
 {
     match key_units(tree, key) {
         Some(text) => delete(state, base, text),
@@ -64,7 +68,8 @@ fn read_for_update(
     key: Key,
     scope: Scope,
 ) -> Result<Next, StepFault>
-    ensures { IfOk result (λ next. Does (nodes_of tree.now) 6 (use_rest (nodes_of tree.now) (Use.Update operator before) base key scope) state.old state.new next) }
+    ensures does { IfOk result (λ next. Does (nodes_of tree.now) 6 (use_rest (nodes_of tree.now) (Use.Update operator before) base key scope) state.old state.new next) }
+    ensures closed { IsClosed (nodes_of tree.now) state.old → ValueFits state.old.heap.cells base → KeyFits (nodes_of tree.now) key → ScopeFits (nodes_of tree.now) state.old.heap.cells scope → Lasts (nodes_of tree.now) state.old state.new result }
 {
     discard(scope);
     let place = place_of(state.alloc, &base, &key)?;
@@ -86,7 +91,8 @@ fn read_for_assignment(
     key: Key,
     scope: Scope,
 ) -> Result<Next, StepFault>
-    ensures { IfOk result (λ next. Does (nodes_of tree.now) 6 (use_rest (nodes_of tree.now) (Use.AssignBy operator value) base key scope) state.old state.new next) }
+    ensures does { IfOk result (λ next. Does (nodes_of tree.now) 6 (use_rest (nodes_of tree.now) (Use.AssignBy operator value) base key scope) state.old state.new next) }
+    ensures closed { IsClosed (nodes_of tree.now) state.old → ValueFits state.old.heap.cells base → KeyFits (nodes_of tree.now) key → ScopeFits (nodes_of tree.now) state.old.heap.cells scope → Lasts (nodes_of tree.now) state.old state.new result }
 {
     let place = place_of(state.alloc, &base, &key)?;
     let frame = AfterFrame::AssignBy {
@@ -107,7 +113,8 @@ fn read_for_call(
     key: Key,
     scope: Scope,
 ) -> Result<Next, StepFault>
-    ensures { IfOk result (λ next. Does (nodes_of tree.now) 6 (use_rest (nodes_of tree.now) (Use.Call node) base key scope) state.old state.new next) }
+    ensures does { IfOk result (λ next. Does (nodes_of tree.now) 6 (use_rest (nodes_of tree.now) (Use.Call node) base key scope) state.old state.new next) }
+    ensures closed { IsClosed (nodes_of tree.now) state.old → ValueFits state.old.heap.cells base → KeyFits (nodes_of tree.now) key → ScopeFits (nodes_of tree.now) state.old.heap.cells scope → Lasts (nodes_of tree.now) state.old state.new result }
 {
     let receiver = base.copy(state.alloc)?;
     let frame = AfterFrame::Callee {
@@ -127,7 +134,8 @@ pub fn use_property(
     key: Key,
     scope: Scope,
 ) -> Result<Next, StepFault>
-    ensures { IfOk result (λ next. Does (nodes_of tree.now) 6 (use_rest (nodes_of tree.now) usage base key scope) state.old state.new next) }
+    ensures does { IfOk result (λ next. Does (nodes_of tree.now) 6 (use_rest (nodes_of tree.now) usage base key scope) state.old state.new next) }
+    ensures closed { IsClosed (nodes_of tree.now) state.old → ValueFits state.old.heap.cells base → KeyFits (nodes_of tree.now) key → ScopeFits (nodes_of tree.now) state.old.heap.cells scope → Lasts (nodes_of tree.now) state.old state.new result }
 {
     match usage {
         Use::Get => {

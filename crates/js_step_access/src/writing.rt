@@ -1,6 +1,7 @@
 //! Writing a place: a name, or a property (ECMA-262, 6.2.5.6: PutValue).
 ghost use Rattle.std.specs.Prelude.{IfOk};
 ghost use Rattle.js_semantics.specs.Prog.{give};
+ghost use Rattle.js_machine.specs.Closed.{IsClosed, Lasts, PlaceFits, ValueFits};
 ghost use Rattle.js_machine.specs.Does.{Does};
 ghost use Rattle.js_machine.specs.Frames.{write_place};
 ghost use Rattle.js_names.specs.Patterns.{nodes_of};
@@ -20,7 +21,8 @@ pub fn write_place(
     value: Value,
     result_value: Value,
 ) -> Result<Next, StepFault>
-    ensures { IfOk result (λ next. Does (nodes_of tree.now) 4 (write_place (nodes_of tree.now) place value (give result_value)) state.old state.new next) }
+    ensures does { IfOk result (λ next. Does (nodes_of tree.now) 4 (write_place (nodes_of tree.now) place value (give result_value)) state.old state.new next) }
+    ensures closed { IsClosed (nodes_of tree.now) state.old → PlaceFits (nodes_of tree.now) state.old.heap.cells place → ValueFits state.old.heap.cells value → ValueFits state.old.heap.cells result_value → Lasts (nodes_of tree.now) state.old state.new result }
 {
     match place {
         Place::Name { node, env } => match name_at(tree, node) {
