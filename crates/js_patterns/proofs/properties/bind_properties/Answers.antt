@@ -1,0 +1,8 @@
+use Rattle.js_names.specs.Patterns.{nodes_of}
+use Rattle.js_patterns.proofs.properties.bind_properties.Goals as goal
+
+pub returns-in-Some-clause-closed : goal.returns-in-Some-clause-closed
+returns-in-Some-clause-closed c closed of scope = c.read.ensures.closed closed of scope
+
+pub returns-in-None-clause-closed : goal.returns-in-None-clause-closed
+returns-in-None-clause-closed c closed of scope = c.done.ensures.closed (nodes_of c.args.tree.now) closed
