@@ -1,3 +1,4 @@
+mod Fitting
 mod Joining
 mod Inheriting
 mod Removals

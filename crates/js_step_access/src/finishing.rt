@@ -3,6 +3,7 @@ ghost use Rattle.std.specs.Prelude.{IfOk};
 ghost use Rattle.js_names.specs.Patterns.{nodes_of};
 ghost use Rattle.js_machine.specs.Closed.{IsClosed, Lasts, PlaceFits, ValueFits};
 ghost use Rattle.js_machine.specs.Does.{Does};
+ghost use Rattle.js_step_expr.specs.Fitting.{RemainingFits};
 ghost use Rattle.js_step_expr.specs.Left.{left_of};
 
 use crate::instance::instance_of;

@@ -5,7 +5,7 @@ ghost use Rattle.js_machine.specs.Closed.{AfterFits, IsClosed, Lasts, ScopeFits,
 ghost use Rattle.js_machine.specs.Does.{Does};
 ghost use Rattle.js_machine.specs.Frames.{after_rest, key_text, use_rest};
 ghost use Rattle.js_names.specs.Patterns.{nodes_of};
-ghost use Rattle.js_step_access.specs.Fitting.{KeyFits};
+ghost use Rattle.js_step_expr.specs.Fitting.{KeyFits};
 
 use crate::keys::{copy_key, key_units};
 use crate::removal::delete;
@@ -26,7 +26,7 @@ fn read(
     frame: AfterFrame,
 ) -> Result<Next, StepFault>
     ensures does { IfOk result (λ next. Does (nodes_of tree.now) 6 (get base (key_text (nodes_of tree.now) key.now) (λ v. after_rest (nodes_of tree.now) frame v)) state.old state.new next) }
-    ensures closed { IsClosed (nodes_of tree.now) state.old → ValueFits state.old.heap.cells base → KeyFits (nodes_of tree.now) key.now → AfterFits (nodes_of tree.now) state.old.heap.cells frame → Lasts (nodes_of tree.now) state.old state.new result }
+    ensures closed { IsClosed (nodes_of tree.now) state.old → ValueFits state.old.heap.cells base → KeyFits (nodes_of tree.now) state.old.heap.cells key.now → AfterFits (nodes_of tree.now) state.old.heap.cells frame → Lasts (nodes_of tree.now) state.old state.new result }
 {
     match key_units(tree, key) {
         Some(text) => get(state, tree, base, text, frame),
@@ -50,7 +50,7 @@ fn place_of(alloc: Global, base: &Value, key: &Key) -> Result<Place, StepFault>
 // Removes a property under a key.
 fn remove(state: &mut State, tree: &Tree, base: &Value, key: &Key) -> Result<Next, StepFault>
     ensures does { IfOk result (λ next. Does (nodes_of tree.now) 6 (delete base.now (key_text (nodes_of tree.now) key.now)) state.old state.new next) }
-    ensures closed { IsClosed (nodes_of tree.now) state.old → ValueFits state.old.heap.cells base.now → KeyFits (nodes_of tree.now) key.now → Lasts (nodes_of tree.now) state.old state.new result }
+    ensures closed { IsClosed (nodes_of tree.now) state.old → ValueFits state.old.heap.cells base.now → KeyFits (nodes_of tree.now) state.old.heap.cells key.now → Lasts (nodes_of tree.now) state.old state.new result }
 {
     match key_units(tree, key) {
         Some(text) => delete(state, base, text),
@@ -69,7 +69,7 @@ fn read_for_update(
     scope: Scope,
 ) -> Result<Next, StepFault>
     ensures does { IfOk result (λ next. Does (nodes_of tree.now) 6 (use_rest (nodes_of tree.now) (Use.Update operator before) base key scope) state.old state.new next) }
-    ensures closed { IsClosed (nodes_of tree.now) state.old → ValueFits state.old.heap.cells base → KeyFits (nodes_of tree.now) key → ScopeFits (nodes_of tree.now) state.old.heap.cells scope → Lasts (nodes_of tree.now) state.old state.new result }
+    ensures closed { IsClosed (nodes_of tree.now) state.old → ValueFits state.old.heap.cells base → KeyFits (nodes_of tree.now) state.old.heap.cells key → ScopeFits (nodes_of tree.now) state.old.heap.cells scope → Lasts (nodes_of tree.now) state.old state.new result }
 {
     discard(scope);
     let place = place_of(state.alloc, &base, &key)?;
@@ -92,7 +92,7 @@ fn read_for_assignment(
     scope: Scope,
 ) -> Result<Next, StepFault>
     ensures does { IfOk result (λ next. Does (nodes_of tree.now) 6 (use_rest (nodes_of tree.now) (Use.AssignBy operator value) base key scope) state.old state.new next) }
-    ensures closed { IsClosed (nodes_of tree.now) state.old → ValueFits state.old.heap.cells base → KeyFits (nodes_of tree.now) key → ScopeFits (nodes_of tree.now) state.old.heap.cells scope → Lasts (nodes_of tree.now) state.old state.new result }
+    ensures closed { IsClosed (nodes_of tree.now) state.old → ValueFits state.old.heap.cells base → KeyFits (nodes_of tree.now) state.old.heap.cells key → ScopeFits (nodes_of tree.now) state.old.heap.cells scope → Lasts (nodes_of tree.now) state.old state.new result }
 {
     let place = place_of(state.alloc, &base, &key)?;
     let frame = AfterFrame::AssignBy {
@@ -114,7 +114,7 @@ fn read_for_call(
     scope: Scope,
 ) -> Result<Next, StepFault>
     ensures does { IfOk result (λ next. Does (nodes_of tree.now) 6 (use_rest (nodes_of tree.now) (Use.Call node) base key scope) state.old state.new next) }
-    ensures closed { IsClosed (nodes_of tree.now) state.old → ValueFits state.old.heap.cells base → KeyFits (nodes_of tree.now) key → ScopeFits (nodes_of tree.now) state.old.heap.cells scope → Lasts (nodes_of tree.now) state.old state.new result }
+    ensures closed { IsClosed (nodes_of tree.now) state.old → ValueFits state.old.heap.cells base → KeyFits (nodes_of tree.now) state.old.heap.cells key → ScopeFits (nodes_of tree.now) state.old.heap.cells scope → Lasts (nodes_of tree.now) state.old state.new result }
 {
     let receiver = base.copy(state.alloc)?;
     let frame = AfterFrame::Callee {
@@ -135,7 +135,7 @@ pub fn use_property(
     scope: Scope,
 ) -> Result<Next, StepFault>
     ensures does { IfOk result (λ next. Does (nodes_of tree.now) 6 (use_rest (nodes_of tree.now) usage base key scope) state.old state.new next) }
-    ensures closed { IsClosed (nodes_of tree.now) state.old → ValueFits state.old.heap.cells base → KeyFits (nodes_of tree.now) key → ScopeFits (nodes_of tree.now) state.old.heap.cells scope → Lasts (nodes_of tree.now) state.old state.new result }
+    ensures closed { IsClosed (nodes_of tree.now) state.old → ValueFits state.old.heap.cells base → KeyFits (nodes_of tree.now) state.old.heap.cells key → ScopeFits (nodes_of tree.now) state.old.heap.cells scope → Lasts (nodes_of tree.now) state.old state.new result }
 {
     match usage {
         Use::Get => {

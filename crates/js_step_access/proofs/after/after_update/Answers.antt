@@ -1,0 +1,8 @@
+use Rattle.js_names.specs.Patterns.{nodes_of}
+use Rattle.js_step_access.proofs.after.after_update.Goals as goal
+
+pub returns-in-Num-clause-closed : goal.returns-in-Num-clause-closed
+returns-in-Num-clause-closed c closed place old = c.update.ensures.closed closed place (rw c.in-Num.is at old)
+
+pub returns-in_default-clause-closed : goal.returns-in_default-clause-closed
+returns-in_default-clause-closed c closed place old = c.throw.ensures.closed (nodes_of c.args.tree.now) closed
