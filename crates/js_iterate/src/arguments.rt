@@ -1,15 +1,18 @@
 //! The arguments of a call, with spreads among them (ECMA-262, 13.3.8.1: ArgumentListEvaluation).
-ghost use Rattle.std.specs.Prelude.{◌≡◌, ◌+◌, ◌++◌, [], ◌∷◌, slice_get, true, false, List, IfOk, Some, None};
+ghost use Rattle.std.specs.Prelude.{◌≡◌, ◌+◌, ◌++◌, [], ◌∷◌, slice_get, true, false, List, IfOk, MatchResult, Some, None};
 ghost use Rattle.js_tree.specs.declared.node.Node as kind;
+ghost use Rattle.world_heap.specs.Over.{ListOver};
 ghost use Rattle.js_names.specs.Patterns.{nodes_of};
 ghost use Rattle.js_semantics.specs.Access.{call};
 ghost use Rattle.js_semantics.specs.Iteration.{items_at, values_of, walk_value};
 ghost use Rattle.js_semantics.specs.Objects.{construct};
 ghost use Rattle.js_semantics.specs.Prog.{Read, eval, give, step};
 ghost use Rattle.js_semantics.specs.World.{cell_at};
+ghost use Rattle.js_machine.specs.Closed.{IsClosed, Lasts, ScopeFits, ValueFits};
 ghost use Rattle.js_machine.specs.Does.{Does};
 ghost use Rattle.js_machine.specs.Frames.{arguments_rest, call_rest, target_call};
 ghost use Rattle.js_iterate.specs.Calls.{pending_rest};
+ghost use Rattle.js_iterate.specs.Closed.{PendingFits, TargetFits};
 
 use crate::rests::items_at;
 use crate::walking::walk_value;
@@ -57,7 +60,8 @@ fn enter_one(
     next: usize,
     scope: Scope,
 ) -> Result<Next, StepFault>
-    ensures { (nodes : List kind.Node) → IfOk result (λ ended. Does nodes 4 (eval argument scope (λ v. arguments_rest nodes pending.node next (pending.before ++ v ∷ []) pending.target scope)) state.old state.new ended) }
+    ensures does { (nodes : List kind.Node) → IfOk result (λ ended. Does nodes 4 (eval argument scope (λ v. arguments_rest nodes pending.node next (pending.before ++ v ∷ []) pending.target scope)) state.old state.new ended) }
+    ensures closed { (nodes : List kind.Node) → IsClosed nodes state.old → PendingFits nodes state.old.heap.cells pending → ScopeFits nodes state.old.heap.cells scope → Lasts nodes state.old state.new result }
 {
     let inner = copy_scope(state.alloc, &scope)?;
     let frame = argument_frame(pending, next, false, scope);
@@ -72,7 +76,8 @@ fn enter_spread(
     next: usize,
     scope: Scope,
 ) -> Result<Next, StepFault>
-    ensures { (nodes : List kind.Node) → IfOk result (λ ended. Does nodes 4 (step (eval list scope (λ v. walk_value v (λ array. Read (λ w. arguments_rest nodes pending.node next (pending.before ++ items_at (cell_at array w)) pending.target scope))))) state.old state.new ended) }
+    ensures does { (nodes : List kind.Node) → IfOk result (λ ended. Does nodes 4 (step (eval list scope (λ v. walk_value v (λ array. Read (λ w. arguments_rest nodes pending.node next (pending.before ++ items_at (cell_at array w)) pending.target scope))))) state.old state.new ended) }
+    ensures closed { (nodes : List kind.Node) → IsClosed nodes state.old → PendingFits nodes state.old.heap.cells pending → ScopeFits nodes state.old.heap.cells scope → Lasts nodes state.old state.new result }
 {
     let inner = copy_scope(state.alloc, &scope)?;
     if !state.step_down() {
@@ -94,7 +99,8 @@ fn enter_argument(
     next: usize,
     scope: Scope,
 ) -> Result<Next, StepFault>
-    ensures { IfOk result (λ ended. Does (nodes_of tree.now) 4 (Read (λ w. values_of (slice_get w.tree argument.0) argument scope (λ vs. arguments_rest (nodes_of tree.now) pending.node next (pending.before ++ vs) pending.target scope))) state.old state.new ended) }
+    ensures does { IfOk result (λ ended. Does (nodes_of tree.now) 4 (Read (λ w. values_of (slice_get w.tree argument.0) argument scope (λ vs. arguments_rest (nodes_of tree.now) pending.node next (pending.before ++ vs) pending.target scope))) state.old state.new ended) }
+    ensures closed { IsClosed (nodes_of tree.now) state.old → PendingFits (nodes_of tree.now) state.old.heap.cells pending → ScopeFits (nodes_of tree.now) state.old.heap.cells scope → Lasts (nodes_of tree.now) state.old state.new result }
 {
     match spread_of(tree, argument) {
         None => enter_one(state, pending, argument, next, scope),
@@ -110,7 +116,8 @@ fn call(
     receiver: Value,
     arguments: Items<Value>,
 ) -> Result<Next, StepFault>
-    ensures { IfOk result (λ ended. Does (nodes_of tree.now) 4 (call callee receiver arguments (λ v. give v)) state.old state.new ended) }
+    ensures does { IfOk result (λ ended. Does (nodes_of tree.now) 4 (call callee receiver arguments (λ v. give v)) state.old state.new ended) }
+    ensures closed { IsClosed (nodes_of tree.now) state.old → ValueFits state.old.heap.cells callee → ValueFits state.old.heap.cells receiver → ListOver (ValueFits state.old.heap.cells) arguments → Lasts (nodes_of tree.now) state.old state.new result }
 {
     let called = call_last(state, tree, &callee, receiver, arguments);
     discard(callee);
@@ -124,7 +131,8 @@ fn make(
     callee: Value,
     arguments: Items<Value>,
 ) -> Result<Next, StepFault>
-    ensures { IfOk result (λ ended. Does (nodes_of tree.now) 4 (construct callee arguments (λ v. give v)) state.old state.new ended) }
+    ensures does { IfOk result (λ ended. Does (nodes_of tree.now) 4 (construct callee arguments (λ v. give v)) state.old state.new ended) }
+    ensures closed { IsClosed (nodes_of tree.now) state.old → ValueFits state.old.heap.cells callee → ListOver (ValueFits state.old.heap.cells) arguments → Lasts (nodes_of tree.now) state.old state.new result }
 {
     let made = construct(state, tree, &callee, arguments);
     discard(callee);
@@ -138,7 +146,8 @@ fn finish(
     target: CallTarget,
     arguments: Items<Value>,
 ) -> Result<Next, StepFault>
-    ensures { IfOk result (λ ended. Does (nodes_of tree.now) 4 (target_call (nodes_of tree.now) target arguments) state.old state.new ended) }
+    ensures does { IfOk result (λ ended. Does (nodes_of tree.now) 4 (target_call (nodes_of tree.now) target arguments) state.old state.new ended) }
+    ensures closed { IsClosed (nodes_of tree.now) state.old → TargetFits (nodes_of tree.now) state.old.heap.cells target → ListOver (ValueFits state.old.heap.cells) arguments → Lasts (nodes_of tree.now) state.old state.new result }
 {
     match target {
         CallTarget::Call { callee, receiver } => call(state, tree, callee, receiver, arguments),
@@ -153,7 +162,8 @@ fn arguments_on(
     pending: Pending,
     scope: Scope,
 ) -> Result<Next, StepFault>
-    ensures { IfOk result (λ ended. Does (nodes_of tree.now) 4 (pending_rest (nodes_of tree.now) pending scope) state.old state.new ended) }
+    ensures does { IfOk result (λ ended. Does (nodes_of tree.now) 4 (pending_rest (nodes_of tree.now) pending scope) state.old state.new ended) }
+    ensures closed { IsClosed (nodes_of tree.now) state.old → PendingFits (nodes_of tree.now) state.old.heap.cells pending → ScopeFits (nodes_of tree.now) state.old.heap.cells scope → Lasts (nodes_of tree.now) state.old state.new result }
 {
     match next_of(items_of(tree, pending.node), pending.next) {
         Some((argument, next)) => enter_argument(state, tree, pending, argument, next, scope),
@@ -178,13 +188,14 @@ pub fn arguments_from(
 ) -> Result<Next, StepFault>
     ensures some { IfOk result (λ ended. Does (nodes_of tree.now) 4 (pending_rest (nodes_of tree.now) pending scope) state.old state.new ended) }
     ensures many { IfOk result (λ ended. Does (nodes_of tree.now) 6 (pending_rest (nodes_of tree.now) pending scope) state.old state.new ended) }
+    ensures closed { IsClosed (nodes_of tree.now) state.old → PendingFits (nodes_of tree.now) state.old.heap.cells pending → ScopeFits (nodes_of tree.now) state.old.heap.cells scope → Lasts (nodes_of tree.now) state.old state.new result }
 {
     arguments_on(state, tree, pending, scope)
 }
 
 // The same with one argument more before the next.
 fn with_value(pending: Pending, value: Value) -> Result<Pending, StepFault>
-    ensures { IfOk result (λ more. more ≡ record pending { before = pending.before ++ value ∷ [] }) }
+    ensures { MatchResult result (λ more. more ≡ record pending { before = pending.before ++ value ∷ [] }) (λ fault. fault ≡ StepFault.Memory) }
 {
     let mut before = pending.before;
     before.push(value)?;
@@ -198,7 +209,7 @@ fn with_value(pending: Pending, value: Value) -> Result<Pending, StepFault>
 
 // The same with these arguments more before the next.
 fn with_values(pending: Pending, values: Items<Value>) -> Result<Pending, StepFault>
-    ensures { IfOk result (λ more. more ≡ record pending { before = pending.before ++ values }) }
+    ensures { MatchResult result (λ more. more ≡ record pending { before = pending.before ++ values }) (λ fault. fault ≡ StepFault.Memory) }
 {
     let mut before = pending.before;
     before.append(values)?;
@@ -221,7 +232,8 @@ pub fn argument_value(
     scope: Scope,
     value: Value,
 ) -> Result<Next, StepFault>
-    ensures { IfOk result (λ ended. Does (nodes_of tree.now) 6 (call_rest (nodes_of tree.now) (CallFrame.Argument pending.node pending.next false pending.before pending.target scope) value) state.old state.new ended) }
+    ensures does { IfOk result (λ ended. Does (nodes_of tree.now) 6 (call_rest (nodes_of tree.now) (CallFrame.Argument pending.node pending.next false pending.before pending.target scope) value) state.old state.new ended) }
+    ensures closed { IsClosed (nodes_of tree.now) state.old → PendingFits (nodes_of tree.now) state.old.heap.cells pending → ScopeFits (nodes_of tree.now) state.old.heap.cells scope → ValueFits state.old.heap.cells value → Lasts (nodes_of tree.now) state.old state.new result }
 {
     let pending = with_value(pending, value)?;
     arguments_from(state, tree, pending, scope)
@@ -235,7 +247,8 @@ fn spread_items(
     scope: Scope,
     array: Loc,
 ) -> Result<Next, StepFault>
-    ensures { IfOk result (λ ended. Does (nodes_of tree.now) 6 (Read (λ w. arguments_rest (nodes_of tree.now) pending.node pending.next (pending.before ++ items_at (cell_at array w)) pending.target scope)) state.old state.new ended) }
+    ensures does { IfOk result (λ ended. Does (nodes_of tree.now) 6 (Read (λ w. arguments_rest (nodes_of tree.now) pending.node pending.next (pending.before ++ items_at (cell_at array w)) pending.target scope)) state.old state.new ended) }
+    ensures closed { IsClosed (nodes_of tree.now) state.old → PendingFits (nodes_of tree.now) state.old.heap.cells pending → ScopeFits (nodes_of tree.now) state.old.heap.cells scope → Lasts (nodes_of tree.now) state.old state.new result }
 {
     let items = items_at(state.alloc, &state.heap, array)?;
     let pending = with_values(pending, items)?;
@@ -254,7 +267,8 @@ pub fn spread_value(
     scope: Scope,
     value: &Value,
 ) -> Result<Next, StepFault>
-    ensures { IfOk result (λ ended. Does (nodes_of tree.now) 6 (call_rest (nodes_of tree.now) (CallFrame.Argument pending.node pending.next true pending.before pending.target scope) value.now) state.old state.new ended) }
+    ensures does { IfOk result (λ ended. Does (nodes_of tree.now) 6 (call_rest (nodes_of tree.now) (CallFrame.Argument pending.node pending.next true pending.before pending.target scope) value.now) state.old state.new ended) }
+    ensures closed { IsClosed (nodes_of tree.now) state.old → PendingFits (nodes_of tree.now) state.old.heap.cells pending → ScopeFits (nodes_of tree.now) state.old.heap.cells scope → ValueFits state.old.heap.cells value.now → Lasts (nodes_of tree.now) state.old state.new result }
 {
     match walk_value(state, value)? {
         Ok(array) => spread_items(state, tree, pending, scope, array),

@@ -1,11 +1,15 @@
 //! The array that is walked for a value (ECMA-262, 7.4.3: GetIterator).
-ghost use Rattle.std.specs.Prelude.{◌≡◌, [], List, IfOk, Some, nat_eq};
+ghost use Rattle.std.specs.Prelude.{◌≡◌, [], List, IfOk, MatchResult, Some, nat_eq};
 ghost use Rattle.js_tree.specs.declared.node.Node as kind;
+ghost use Rattle.world_heap.specs.Heaps.{IsNoEnv};
 ghost use Rattle.world_heap.specs.Maps.{find};
+ghost use Rattle.world_heap.specs.Over.{ListOver};
 ghost use Rattle.js_semantics.specs.Access.{make_array};
 ghost use Rattle.js_semantics.specs.Iteration.{points_of, push_entries, push_items, push_texts, walk_value};
 ghost use Rattle.js_semantics.specs.Prog.{throw};
+ghost use Rattle.js_machine.specs.Closed.{IsClosed, ValueFits};
 ghost use Rattle.js_step_object.specs.Defining.{Makes};
+ghost use Rattle.js_iterate.specs.Closed.{EntryFits, LastsWith, WalkedFits};
 ghost use Rattle.js_iterate.specs.Walking.{walk_found, walked_in};
 
 use crate::filling::{new_array, push_entries, push_points, push_values};
@@ -34,7 +38,7 @@ pub enum Walked<L = Loc> {
 
 // The same entry again.
 fn copy_entry(alloc: Global, entry: &MapEntry) -> Result<MapEntry, StepFault>
-    ensures { IfOk result (λ copy. copy ≡ entry.now) }
+    ensures { MatchResult result (λ copy. copy ≡ entry.now) (λ fault. fault ≡ StepFault.Memory) }
 {
     let key = entry.key.copy(alloc)?;
     let value = entry.value.copy(alloc)?;
@@ -43,7 +47,7 @@ fn copy_entry(alloc: Global, entry: &MapEntry) -> Result<MapEntry, StepFault>
 
 // The same entries again.
 fn copy_entries(alloc: Global, entries: &[MapEntry]) -> Result<Items<MapEntry>, StepFault>
-    ensures { IfOk result (λ copies. copies ≡ entries.now) }
+    ensures { MatchResult result (λ copies. copies ≡ entries.now) (λ fault. fault ≡ StepFault.Memory) }
 {
     let mut copies = Items::new(alloc);
     'entries: for entry in entries {
@@ -57,7 +61,7 @@ fn copy_entries(alloc: Global, entries: &[MapEntry]) -> Result<Items<MapEntry>, 
 // put into an array.
 #[tactic(auto, unfolding(crate::specs::Walking::walked_in))]
 fn walked_in(alloc: Global, cell: &Cell) -> Result<Walked, StepFault>
-    ensures { IfOk result (λ found. found ≡ walked_in (Some cell.now)) }
+    ensures { MatchResult result (λ found. found ≡ walked_in (Some cell.now)) (λ fault. fault ≡ StepFault.Memory) }
 {
     match cell {
         Cell::Array { .. } => Ok(Walked::Itself),
@@ -70,7 +74,7 @@ fn walked_in(alloc: Global, cell: &Cell) -> Result<Walked, StepFault>
 // What is walked of the cell at a location.
 #[tactic(auto, unfolding(crate::specs::Walking::walked_in))]
 fn walked_at(alloc: Global, heap: &Heap, loc: Loc) -> Result<Walked, StepFault>
-    ensures { IfOk result (λ found. found ≡ walked_in (find nat_eq heap.now.cells loc)) }
+    ensures { MatchResult result (λ found. found ≡ walked_in (find nat_eq heap.now.cells loc)) (λ fault. fault ≡ StepFault.Memory) }
 {
     match heap.get(loc) {
         Some(cell) => walked_in(alloc, cell),
@@ -80,7 +84,8 @@ fn walked_at(alloc: Global, heap: &Heap, loc: Loc) -> Result<Walked, StepFault>
 
 // Throws, since the value can't be walked.
 fn refuse(state: &mut State) -> Result<Walking, StepFault>
-    ensures { (nodes : List kind.Node) → IfOk result (λ made. Makes nodes (λ k. throw Fault.NotIterable) state.old state.new made) }
+    ensures does { (nodes : List kind.Node) → IfOk result (λ made. Makes nodes (λ k. throw Fault.NotIterable) state.old state.new made) }
+    ensures closed { (nodes : List kind.Node) → IsClosed nodes state.old → LastsWith (IsNoEnv nat_eq) nodes state.old state.new result }
 {
     match state.throw(Fault::NotIterable) {
         Ok(next) => Ok(Err(next)),
@@ -90,7 +95,8 @@ fn refuse(state: &mut State) -> Result<Walking, StepFault>
 
 // A new array of values.
 fn walk_values(state: &mut State, values: &[Value]) -> Result<Walking, StepFault>
-    ensures { (nodes : List kind.Node) → IfOk result (λ made. Makes nodes (λ k. make_array [] (λ array. push_items array values.now (k array))) state.old state.new made) }
+    ensures does { (nodes : List kind.Node) → IfOk result (λ made. Makes nodes (λ k. make_array [] (λ array. push_items array values.now (k array))) state.old state.new made) }
+    ensures closed { (nodes : List kind.Node) → IsClosed nodes state.old → ListOver (ValueFits state.old.heap.cells) values.now → LastsWith (IsNoEnv nat_eq) nodes state.old state.new result }
 {
     let empty = Items::new(state.alloc);
     let array = match new_array(state, empty)? {
@@ -105,7 +111,8 @@ fn walk_values(state: &mut State, values: &[Value]) -> Result<Walking, StepFault
 
 // A new array of the entries of a Map.
 fn walk_entries(state: &mut State, entries: &[MapEntry]) -> Result<Walking, StepFault>
-    ensures { (nodes : List kind.Node) → IfOk result (λ made. Makes nodes (λ k. make_array [] (λ array. push_entries array entries.now (k array))) state.old state.new made) }
+    ensures does { (nodes : List kind.Node) → IfOk result (λ made. Makes nodes (λ k. make_array [] (λ array. push_entries array entries.now (k array))) state.old state.new made) }
+    ensures closed { (nodes : List kind.Node) → IsClosed nodes state.old → ListOver (EntryFits state.old.heap.cells) entries.now → LastsWith (IsNoEnv nat_eq) nodes state.old state.new result }
 {
     let empty = Items::new(state.alloc);
     let array = match new_array(state, empty)? {
@@ -120,7 +127,8 @@ fn walk_entries(state: &mut State, entries: &[MapEntry]) -> Result<Walking, Step
 
 // A new array of the code points of a text.
 fn walk_text(state: &mut State, text: &Units) -> Result<Walking, StepFault>
-    ensures { (nodes : List kind.Node) → IfOk result (λ made. Makes nodes (λ k. make_array [] (λ array. push_texts array (points_of text.now) (k array))) state.old state.new made) }
+    ensures does { (nodes : List kind.Node) → IfOk result (λ made. Makes nodes (λ k. make_array [] (λ array. push_texts array (points_of text.now) (k array))) state.old state.new made) }
+    ensures closed { (nodes : List kind.Node) → IsClosed nodes state.old → LastsWith (IsNoEnv nat_eq) nodes state.old state.new result }
 {
     let empty = Items::new(state.alloc);
     let array = match new_array(state, empty)? {
@@ -136,7 +144,8 @@ fn walk_text(state: &mut State, text: &Units) -> Result<Walking, StepFault>
 // The array that is walked for what was found at a location.
 #[tactic(auto, unfolding(crate::specs::Walking::walk_found))]
 fn walk_found(state: &mut State, found: &Walked, loc: Loc) -> Result<Walking, StepFault>
-    ensures { (nodes : List kind.Node) → IfOk result (λ made. Makes nodes (λ k. walk_found found.now loc k) state.old state.new made) }
+    ensures does { (nodes : List kind.Node) → IfOk result (λ made. Makes nodes (λ k. walk_found found.now loc k) state.old state.new made) }
+    ensures closed { (nodes : List kind.Node) → IsClosed nodes state.old → WalkedFits state.old.heap.cells found.now → IsNoEnv nat_eq state.old.heap.cells loc → LastsWith (IsNoEnv nat_eq) nodes state.old state.new result }
 {
     match found {
         Walked::Itself => Ok(Ok(loc)),
@@ -148,7 +157,8 @@ fn walk_found(state: &mut State, found: &Walked, loc: Loc) -> Result<Walking, St
 
 // The array that is walked for a location.
 fn walk_loc(state: &mut State, loc: Loc) -> Result<Walking, StepFault>
-    ensures { (nodes : List kind.Node) → IfOk result (λ made. Makes nodes (λ k. walk_value (Value.Ref loc) k) state.old state.new made) }
+    ensures does { (nodes : List kind.Node) → IfOk result (λ made. Makes nodes (λ k. walk_value (Value.Ref loc) k) state.old state.new made) }
+    ensures closed { (nodes : List kind.Node) → IsClosed nodes state.old → IsNoEnv nat_eq state.old.heap.cells loc → LastsWith (IsNoEnv nat_eq) nodes state.old state.new result }
 {
     let found = walked_at(state.alloc, &state.heap, loc)?;
     walk_found(state, &found, loc)
@@ -164,7 +174,8 @@ fn walk_loc(state: &mut State, loc: Loc) -> Result<Walking, StepFault>
 /// `Memory` where there is none; `Dangling` where a location was met that stands nowhere.
 #[tactic(auto, unfolding(js_semantics::specs::Iteration::walk_value))]
 pub fn walk_value(state: &mut State, value: &Value) -> Result<Walking, StepFault>
-    ensures { (nodes : List kind.Node) → IfOk result (λ made. Makes nodes (λ k. walk_value value.now k) state.old state.new made) }
+    ensures does { (nodes : List kind.Node) → IfOk result (λ made. Makes nodes (λ k. walk_value value.now k) state.old state.new made) }
+    ensures closed { (nodes : List kind.Node) → IsClosed nodes state.old → ValueFits state.old.heap.cells value.now → LastsWith (IsNoEnv nat_eq) nodes state.old state.new result }
 {
     match value {
         Value::Ref(loc) => walk_loc(state, *loc),

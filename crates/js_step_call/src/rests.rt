@@ -1,8 +1,12 @@
 //! What follows the callee, the arguments and the parameters of a call (ECMA-262, 13.3.6.2, 13.3.8.1 and 10.2.11).
 ghost use Rattle.std.specs.Prelude.{[], IfOk};
 ghost use Rattle.js_names.specs.Patterns.{nodes_of};
+ghost use Rattle.js_machine.specs.Closed.{FrameFits, IsClosed, Lasts, ScopeFits, ValueFits};
 ghost use Rattle.js_machine.specs.Does.{Does};
 ghost use Rattle.js_machine.specs.Frames.{after_rest, arguments_rest, call_rest};
+ghost use Rattle.js_machine.specs.declared.frame.Frame.TheVariants as frames;
+ghost use Rattle.js_machine.specs.declared.frame.ValueFrame.TheVariants as values;
+ghost use Rattle.js_iterate.specs.Closed.{PendingFits, TargetFits};
 
 use js_calls::{parameter_bound, parameter_default, rest_bound};
 use js_iterate::{Pending, argument_value, arguments_from, spread_value};
@@ -22,6 +26,7 @@ fn all_arguments(
 ) -> Result<Next, StepFault>
     ensures some { IfOk result (λ next. Does (nodes_of tree.now) 4 (arguments_rest (nodes_of tree.now) node 0 [] target scope) state.old state.new next) }
     ensures many { IfOk result (λ next. Does (nodes_of tree.now) 6 (arguments_rest (nodes_of tree.now) node 0 [] target scope) state.old state.new next) }
+    ensures closed { IsClosed (nodes_of tree.now) state.old → TargetFits (nodes_of tree.now) state.old.heap.cells target → ScopeFits (nodes_of tree.now) state.old.heap.cells scope → Lasts (nodes_of tree.now) state.old state.new result }
 {
     let pending = Pending {
         node,
@@ -41,7 +46,8 @@ fn argument(
     scope: Scope,
     value: Value,
 ) -> Result<Next, StepFault>
-    ensures { IfOk result (λ next. Does (nodes_of tree.now) 6 (call_rest (nodes_of tree.now) (CallFrame.Argument pending.node pending.next spread pending.before pending.target scope) value) state.old state.new next) }
+    ensures does { IfOk result (λ next. Does (nodes_of tree.now) 6 (call_rest (nodes_of tree.now) (CallFrame.Argument pending.node pending.next spread pending.before pending.target scope) value) state.old state.new next) }
+    ensures closed { IsClosed (nodes_of tree.now) state.old → PendingFits (nodes_of tree.now) state.old.heap.cells pending → ScopeFits (nodes_of tree.now) state.old.heap.cells scope → ValueFits state.old.heap.cells value → Lasts (nodes_of tree.now) state.old state.new result }
 {
     if spread {
         spread_value(state, tree, pending, scope, &value)
@@ -59,7 +65,8 @@ pub fn call_frame(
     frame: CallFrame,
     value: Value,
 ) -> Result<Next, StepFault>
-    ensures { IfOk result (λ made. Does (nodes_of tree.now) 6 (call_rest (nodes_of tree.now) frame value) state.old state.new made) }
+    ensures does { IfOk result (λ made. Does (nodes_of tree.now) 6 (call_rest (nodes_of tree.now) frame value) state.old state.new made) }
+    ensures closed { IsClosed (nodes_of tree.now) state.old → FrameFits (nodes_of tree.now) state.old.heap.cells (frames.OnValue (values.Call frame)) → ValueFits state.old.heap.cells value → Lasts (nodes_of tree.now) state.old state.new result }
 {
     match frame {
         CallFrame::Callee { node, scope } => {
@@ -120,7 +127,8 @@ pub fn after_callee(
     scope: Scope,
     callee: Value,
 ) -> Result<Next, StepFault>
-    ensures { IfOk result (λ next. Does (nodes_of tree.now) 4 (after_rest (nodes_of tree.now) (AfterFrame.Callee node base scope) callee) state.old state.new next) }
+    ensures does { IfOk result (λ next. Does (nodes_of tree.now) 4 (after_rest (nodes_of tree.now) (AfterFrame.Callee node base scope) callee) state.old state.new next) }
+    ensures closed { IsClosed (nodes_of tree.now) state.old → ValueFits state.old.heap.cells base → ScopeFits (nodes_of tree.now) state.old.heap.cells scope → ValueFits state.old.heap.cells callee → Lasts (nodes_of tree.now) state.old state.new result }
 {
     let target = CallTarget::Call {
         callee,

@@ -4,10 +4,11 @@ ghost use Rattle.js_tree.specs.declared.node.Node as kind;
 ghost use Rattle.js_names.specs.Patterns.{nodes_of};
 ghost use Rattle.js_semantics.specs.Objects.{row_call, row_new};
 ghost use Rattle.js_semantics.specs.Prog.{eval, step};
+ghost use Rattle.js_machine.specs.Closed.{FrameFits, IsClosed, Lasts, ScopeFits};
 ghost use Rattle.js_machine.specs.Does.{Does};
 ghost use Rattle.js_machine.specs.Frames.{call_rest, property_rest};
 ghost use Rattle.js_machine.specs.Parts.{items_of};
-ghost use Rattle.js_step_call.specs.Called.{call_at};
+ghost use Rattle.js_step_call.specs.Called.{CalledFits, call_at};
 
 use crate::called::{Called, called_at};
 use js_machine::{
@@ -24,7 +25,8 @@ fn enter_object(
     object: NodeId,
     scope: Scope,
 ) -> Result<Next, StepFault>
-    ensures { (nodes : List kind.Node) → IfOk result (λ next. Does nodes 6 (step (eval object scope (λ base. property_rest nodes frame base))) state.old state.new next) }
+    ensures does { (nodes : List kind.Node) → IfOk result (λ next. Does nodes 6 (step (eval object scope (λ base. property_rest nodes frame base))) state.old state.new next) }
+    ensures closed { (nodes : List kind.Node) → IsClosed nodes state.old → FrameFits nodes state.old.heap.cells (Frame.OnValue (ValueFrame.Property frame)) → ScopeFits nodes state.old.heap.cells scope → Lasts nodes state.old state.new result }
 {
     if !state.step_down() {
         return Ok(stopped(Stop::Fuel));
@@ -39,7 +41,8 @@ fn enter_callee(
     callee: NodeId,
     scope: Scope,
 ) -> Result<Next, StepFault>
-    ensures { (nodes : List kind.Node) → IfOk result (λ next. Does nodes 6 (eval callee scope (λ f. call_rest nodes frame f)) state.old state.new next) }
+    ensures does { (nodes : List kind.Node) → IfOk result (λ next. Does nodes 6 (eval callee scope (λ f. call_rest nodes frame f)) state.old state.new next) }
+    ensures closed { (nodes : List kind.Node) → IsClosed nodes state.old → FrameFits nodes state.old.heap.cells (Frame.OnValue (ValueFrame.Call frame)) → ScopeFits nodes state.old.heap.cells scope → Lasts nodes state.old state.new result }
 {
     state.enter(Frame::OnValue(ValueFrame::Call(frame)), callee, scope)
 }
@@ -52,7 +55,8 @@ fn enter_called(
     called: Called,
     scope: Scope,
 ) -> Result<Next, StepFault>
-    ensures { (nodes : List kind.Node) → IfOk result (λ next. Does nodes 6 (call_at nodes node callee called scope) state.old state.new next) }
+    ensures does { (nodes : List kind.Node) → IfOk result (λ next. Does nodes 6 (call_at nodes node callee called scope) state.old state.new next) }
+    ensures closed { (nodes : List kind.Node) → IsClosed nodes state.old → CalledFits nodes callee called → ScopeFits nodes state.old.heap.cells scope → Lasts nodes state.old state.new result }
 {
     let inner = copy_scope(state.alloc, &scope)?;
     let usage = Use::Call { node };
@@ -83,7 +87,8 @@ pub fn row_call(
     callee: NodeId,
     scope: Scope,
 ) -> Result<Next, StepFault>
-    ensures { IfOk result (λ next. Does (nodes_of tree.now) 6 (row_call callee (items_of (slice_get (nodes_of tree.now) node.0)) scope) state.old state.new next) }
+    ensures does { IfOk result (λ next. Does (nodes_of tree.now) 6 (row_call callee (items_of (slice_get (nodes_of tree.now) node.0)) scope) state.old state.new next) }
+    ensures closed { IsClosed (nodes_of tree.now) state.old → ScopeFits (nodes_of tree.now) state.old.heap.cells scope → Lasts (nodes_of tree.now) state.old state.new result }
 {
     enter_called(state, node, callee, called_at(tree, callee), scope)
 }
@@ -96,7 +101,8 @@ pub fn row_new(
     callee: NodeId,
     scope: Scope,
 ) -> Result<Next, StepFault>
-    ensures { (nodes : List kind.Node) → IfOk result (λ next. Does nodes 6 (row_new callee (items_of (slice_get nodes node.0)) scope) state.old state.new next) }
+    ensures does { (nodes : List kind.Node) → IfOk result (λ next. Does nodes 6 (row_new callee (items_of (slice_get nodes node.0)) scope) state.old state.new next) }
+    ensures closed { (nodes : List kind.Node) → IsClosed nodes state.old → ScopeFits nodes state.old.heap.cells scope → Lasts nodes state.old state.new result }
 {
     let inner = copy_scope(state.alloc, &scope)?;
     enter_callee(state, CallFrame::NewCallee { node, scope }, callee, inner)
