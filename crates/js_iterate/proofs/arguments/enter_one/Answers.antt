@@ -1,4 +1,4 @@
 use Rattle.js_iterate.proofs.arguments.enter_one.Goals as goal
 
-pub returns : goal.returns
-returns c nodes = rw (c.in_ok-inner.ensures, c.argument_frame-frame.ensures) at (c.enter.ensures.some nodes)
+pub returns-clause-does : goal.returns-clause-does
+returns-clause-does c nodes = rw (c.in_ok-inner.ensures, c.argument_frame-frame.ensures) at (c.enter.ensures.some nodes)
