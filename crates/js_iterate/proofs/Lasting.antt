@@ -10,7 +10,6 @@ use Rattle.world_heap.specs.Maps.{find}
 use Rattle.world_heap.specs.Over.{ListOver, list_more, value_more}
 use Rattle.world_heap.specs.Heaps.{Fits, IsCell, IsNoEnv, IsWell}
 use Rattle.world_heap.proofs.Wells.{fits_found}
-use Rattle.js_semantics.specs.declared.fault.StepFault.{StepFault}
 use Rattle.js_semantics.specs.Iteration.{items_at}
 use Rattle.js_names.specs.Growing.{Grows, IsOpen}
 use Rattle.js_names.proofs.Growing.{cell_grown, grows_not}

@@ -5,6 +5,11 @@ use Rattle.js_semantics.specs.Iteration.{items_at}
 use Rattle.js_semantics.specs.Prog.{Prog, Read}
 use Rattle.js_machine.specs.Frames.{arguments_rest}
 use Rattle.js_iterate.proofs.Walks.{walk_ok, walk_ended}
+use Rattle.std.proofs.lemmas.Result.{err_from_is_err_and}
+use Rattle.std.proofs.Common.{nat_eq}
+use Rattle.world_heap.specs.Heaps.{IsNoEnv}
+use Rattle.js_iterate.proofs.Lasting.{ended_with, made_with, pending_grown}
+use Rattle.js_machine.proofs.Closing.{lasts_on, scope_grown}
 use Rattle.js_iterate.proofs.arguments.spread_value.Goals as goal
 
 pub returns-in-Ok-clause-does : goal.returns-in-Ok-clause-does
@@ -18,3 +23,18 @@ returns-in-Err-clause-does c =
     let nodes = nodes_of c.args.tree.now in
     let k : ℕ → Prog ℕ = λ array. Read (λ w. arguments_rest nodes c.args.pending.node c.args.pending.next (c.args.pending.before ++ items_at (cell_at array w)) c.args.pending.target c.args.scope) in
     walk_ended nodes 6 c.args.value.now k c.args.state.now c.walk_value.new.state _ (c.in_ok-array.ensures.does nodes) c.in-Err.ended (omega arith) c.in-Err.is
+
+pub returns-in_err-array-clause-closed : goal.returns-in_err-array-clause-closed
+returns-in_err-array-clause-closed c closed pending scope fit =
+    let p = err_from_is_err_and c.from_residual.result c.from_residual.ensures.1 in rw (p.1, p.2) (c.in_err-array.ensures.closed (nodes_of c.args.tree.now) closed fit)
+
+pub returns-in-Ok-clause-closed : goal.returns-in-Ok-clause-closed
+returns-in-Ok-clause-closed c closed pending scope fit =
+    let nodes = nodes_of c.args.tree.now in
+    let (went, stands) = made_with (IsNoEnv nat_eq) nodes c.args.state.now c.walk_value.new.state _ c.in-Ok.array c.in-Ok.is (c.in_ok-array.ensures.closed nodes closed fit) in
+    lasts_on nodes c.args.state.now c.walk_value.new.state c.spread_items.new.state c.spread_items.result went
+    (c.spread_items.ensures.closed went.closed (pending_grown c.args.state.now.heap.cells c.walk_value.new.state.heap.cells went.grows nodes c.args.pending pending) (scope_grown nodes c.args.state.now.heap.cells c.walk_value.new.state.heap.cells went.grows c.args.scope scope))
+
+pub returns-in-Err-clause-closed : goal.returns-in-Err-clause-closed
+returns-in-Err-clause-closed c closed pending scope fit =
+    ended_with (IsNoEnv nat_eq) (nodes_of c.args.tree.now) c.args.state.now c.walk_value.new.state _ c.in-Err.ended c.in-Err.is (c.in_ok-array.ensures.closed (nodes_of c.args.tree.now) closed fit)

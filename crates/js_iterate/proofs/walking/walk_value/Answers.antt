@@ -10,3 +10,15 @@ returns-in-Str-clause-does c nodes = value_text nodes c.args.value.now _ _ c.arg
 
 pub returns-in_default-clause-does : goal.returns-in_default-clause-does
 returns-in_default-clause-does c nodes = value_refused nodes c.args.value.now c.args.state.now c.refuse.new.state c.refuse.result (λ loc e. c.in_default.not-Ref loc e) (λ text e. c.in_default.not-Str text e) (c.refuse.ensures.does nodes)
+
+pub returns-in-Ref-clause-closed : goal.returns-in-Ref-clause-closed
+returns-in-Ref-clause-closed c nodes closed fit =
+    c.walk_loc.ensures.closed nodes closed (rw c.in-Ref.is at fit)
+
+pub returns-in-Str-clause-closed : goal.returns-in-Str-clause-closed
+returns-in-Str-clause-closed c nodes closed fit =
+    c.walk_text.ensures.closed nodes closed
+
+pub returns-in_default-clause-closed : goal.returns-in_default-clause-closed
+returns-in_default-clause-closed c nodes closed fit =
+    c.refuse.ensures.closed nodes closed
