@@ -1,13 +1,13 @@
 -- What operators come to on numbers is in range (ECMA-262, 21.1.2.6), and so what they answer fits each heap.
-use Rattle.std.proofs.Common.{◌≡◌, ◌<◌, ◌≤◌, ◌-◌, ◌/◌, ◌%◌, ◌^◌, ℕ, suc, zero, ℤ, pos, negsuc, ◌-ℤ◌, neg_ℤ, ◌≤ℤ◌, int_le, List, length, nat_lt, Bool, true, false, ◌&&◌, if◌then◌else◌, Option, Some, None, nat_eq, refl, sym, subst, arith}
-use Rattle.std.specs.Prelude.{◌+ℤ◌, ◌*ℤ◌, ◌*◌, bit_and, bit_or, bit_xor, unsigned_abs, int_rem, int_div}
+use Rattle.std.proofs.Common.{◌≡◌, ◌<◌, ◌≤◌, ◌-◌, ◌/◌, ◌%◌, ◌^◌, ℕ, suc, zero, ℤ, pos, negsuc, ◌-ℤ◌, neg_ℤ, ◌≤ℤ◌, int_le, List, length, nat_lt, Bool, true, false, ◌&&◌, if◌then◌else◌, Option, Some, refl, sym, subst, arith}
+use Rattle.std.specs.Prelude.{◌+ℤ◌, ◌*ℤ◌, ◌*◌, bit_and, bit_or, bit_xor, int_rem, int_div}
 use Rattle.std.proofs.lemmas.Int.{ints}
 use Rattle.std.proofs.lemmas.Nat.{and_le_l, or_of_32, xor_of_32, mod_below}
 use Rattle.std.proofs.Math.Nat.{div-le_self}
 use lib.Signed.{le_z_yes}
 use lib.Dec.{T}
 use Rattle.world_heap.specs.declared.value.Value.{Value}
-use Rattle.world_heap.specs.declared.value.Value.TheVariants.{Undefined, Null, Bool as Boolean, Num, Str, Ref}
+use Rattle.world_heap.specs.declared.value.Value.TheVariants.{Num, Str}
 use Rattle.world_heap.specs.declared.cell.Cell.{Cell}
 use Rattle.world_heap.specs.Over.{IsSafe}
 use Rattle.js_tree.specs.declared.node.BinaryOperator.{BinaryOperator}
@@ -15,7 +15,7 @@ use Rattle.js_tree.specs.declared.node.BinaryOperator.TheVariants.{Add, Subtract
 use Rattle.js_tree.specs.declared.node.UnaryOperator.{UnaryOperator}
 use Rattle.js_tree.specs.declared.node.UnaryOperator.TheVariants.{Not, BitNot, Plus, Minus, Void}
 use Rattle.js_semantics.specs.declared.fault.Fault.TheVariants.{NotAWholeNumber, TooLong}
-use Rattle.js_semantics.specs.Operators.{Computed, Is, Makes, Fails, is_safe, to_unsigned, to_signed, halved, whole, quotient, rest_of, signed, of_numbers, of_texts, joined, primitive_text, of_operands, unary_of}
+use Rattle.js_semantics.specs.Operators.{Computed, Is, Makes, Fails, is_safe, to_unsigned, to_signed, halved, whole, quotient, rest_of, of_numbers, of_texts, joined, primitive_text, of_operands, unary_of}
 use Rattle.js_operators.specs.declared.answer.Answer.{Answer}
 use Rattle.js_operators.specs.declared.answer.Answer.TheVariants as answers
 use Rattle.js_operators.specs.Answers.{computed_of, made, settled}
