@@ -15,19 +15,12 @@ returns-in-Some-clause-does c nodes =
     turn_ended nodes (λ p. push_entries c.args.array c.args.entries.now p) (λ p. push_entries c.args.array (drop c.entries.entry-index c.args.entries.now) p) (λ p. make_array (c.entry-item.result.key ∷ c.entry-item.result.value ∷ []) (λ pair. push_item c.args.array (Ref pair) p)) (λ p. push_entries c.args.array (drop (c.entries.entry-index + 1) c.args.entries.now) p) c.args.state.now c.entries.state c.push_entry.new.state (c.entries.invariant.0 nodes) (λ p. entries_turn c.args.array c.args.entries.now c.entries.entry-index c.entry-item.result p c.entries-test.true c.entry-item.is) c.in-Some.next (rw c.in-Some.is at (c.in_ok-next.ensures.does nodes))
 
 pub entries-preserved : goal.entries-preserved
-<<<<<<< HEAD
-entries-preserved c = (λ nodes.
-    turn_more nodes (λ p. push_entries c.args.array c.args.entries.now p) (λ p. push_entries c.args.array (drop c.entries.entry-index c.args.entries.now) p) (λ p. make_array (c.entry-item.result.key ∷ c.entry-item.result.value ∷ []) (λ pair. push_item c.args.array (Ref pair) p)) (λ p. push_entries c.args.array (drop (c.entries.entry-index + 1) c.args.entries.now) p) c.args.state.now c.entries.state c.push_entry.new.state (c.entries.invariant.0 nodes) (λ p. entries_turn c.args.array c.args.entries.now c.entries.entry-index c.entry-item.result p c.entries-test.true c.entry-item.is) (rw c.in_default.is at (c.in_ok-next.ensures.does nodes)),
-    λ nodes closed unfrozen fit. let went = c.entries.invariant.1 nodes closed unfrozen fit in
-    goes_on nodes c.args.state.now c.entries.state c.push_entry.new.state went (c.in_ok-next.ensures.closed nodes went.closed (went.grows.open_array c.args.array unfrozen) (entry_at c.args.state.now.heap.cells c.entries.state.heap.cells went.grows c.args.entries.now c.entries.entry-index c.entry-item.result fit c.entries-test.true c.entry-item.is)))
-=======
 entries-preserved c = (
   λ nodes.
       turn_more nodes (λ p. push_entries c.args.array c.args.entries.now p) (λ p. push_entries c.args.array (drop c.entries.entry-index c.args.entries.now) p) (λ p. make_array (c.entry-item.result.key ∷ c.entry-item.result.value ∷ []) (λ pair. push_item c.args.array (Ref pair) p)) (λ p. push_entries c.args.array (drop (c.entries.entry-index + 1) c.args.entries.now) p) c.args.state.now c.entries.state c.push_entry.new.state (c.entries.invariant.0 nodes) (λ p. entries_turn c.args.array c.args.entries.now c.entries.entry-index c.entry-item.result p c.entries-test.true c.entry-item.is) (rw c.in_default.is at (c.in_ok-next.ensures.does nodes)),
   λ nodes closed unfrozen fit. let went = c.entries.invariant.1 nodes closed unfrozen fit in
       goes_on nodes c.args.state.now c.entries.state c.push_entry.new.state went (c.in_ok-next.ensures.closed nodes went.closed (went.grows.open_array c.args.array unfrozen) (entry_at c.args.state.now.heap.cells c.entries.state.heap.cells went.grows c.args.entries.now c.entries.entry-index c.entry-item.result fit c.entries-test.true c.entry-item.is)),
 )
->>>>>>> 49574e1f66e50078ec52fc316e64e3129332ede9
 
 pub returns-clause-does : goal.returns-clause-does
 returns-clause-does c nodes =

@@ -13,8 +13,4 @@ abbrev pub invariant-entries : goal.invariant-entries
 invariant-entries l = (
     ((nodes : List Node) (p : Prog _) → Moves nodes (push_entries l.array l.entries p) l.initial.state (push_entries l.array (drop l.entry-index l.entries) p) l.state)
     × ((nodes : List Node) → IsClosed nodes l.initial.state → IsOpen l.initial.state.heap.cells l.array → ListOver (EntryFits l.initial.state.heap.cells) l.entries → GoesOn nodes l.initial.state l.state)
-<<<<<<< HEAD
-)
-=======
     )
->>>>>>> 49574e1f66e50078ec52fc316e64e3129332ede9

@@ -13,19 +13,12 @@ returns-in-Some-clause-does c nodes =
     turn_ended nodes (λ p. push_texts c.args.array (points_of c.args.text.now) p) (λ p. push_texts c.args.array (points_of (drop c.points.at c.args.text.now)) p) (λ p. make_text c.in_ok-point.point (λ v. push_item c.args.array v p)) (λ p. push_texts c.args.array (points_of (drop c.point_end-end.result c.args.text.now)) p) c.args.state.now c.points.state c.push_text.new.state (c.points.invariant.0 nodes) (λ p. points_turn c.args.array c.args.text.now c.in_ok-point.point c.points.at c.point_end-end.result p c.point_end-end.ensures c.in_ok-point.ensures) c.in-Some.next (rw c.in-Some.is at (c.in_ok-next.ensures.does nodes))
 
 pub points-preserved : goal.points-preserved
-<<<<<<< HEAD
-points-preserved c = (λ nodes.
-    turn_more nodes (λ p. push_texts c.args.array (points_of c.args.text.now) p) (λ p. push_texts c.args.array (points_of (drop c.points.at c.args.text.now)) p) (λ p. make_text c.in_ok-point.point (λ v. push_item c.args.array v p)) (λ p. push_texts c.args.array (points_of (drop c.point_end-end.result c.args.text.now)) p) c.args.state.now c.points.state c.push_text.new.state (c.points.invariant.0 nodes) (λ p. points_turn c.args.array c.args.text.now c.in_ok-point.point c.points.at c.point_end-end.result p c.point_end-end.ensures c.in_ok-point.ensures) (rw c.in_default.is at (c.in_ok-next.ensures.does nodes)),
-    λ nodes closed unfrozen. let went = c.points.invariant.1 nodes closed unfrozen in
-    goes_on nodes c.args.state.now c.points.state c.push_text.new.state went (c.in_ok-next.ensures.closed nodes went.closed (went.grows.open_array c.args.array unfrozen)))
-=======
 points-preserved c = (
   λ nodes.
       turn_more nodes (λ p. push_texts c.args.array (points_of c.args.text.now) p) (λ p. push_texts c.args.array (points_of (drop c.points.at c.args.text.now)) p) (λ p. make_text c.in_ok-point.point (λ v. push_item c.args.array v p)) (λ p. push_texts c.args.array (points_of (drop c.point_end-end.result c.args.text.now)) p) c.args.state.now c.points.state c.push_text.new.state (c.points.invariant.0 nodes) (λ p. points_turn c.args.array c.args.text.now c.in_ok-point.point c.points.at c.point_end-end.result p c.point_end-end.ensures c.in_ok-point.ensures) (rw c.in_default.is at (c.in_ok-next.ensures.does nodes)),
   λ nodes closed unfrozen. let went = c.points.invariant.1 nodes closed unfrozen in
       goes_on nodes c.args.state.now c.points.state c.push_text.new.state went (c.in_ok-next.ensures.closed nodes went.closed (went.grows.open_array c.args.array unfrozen)),
 )
->>>>>>> 49574e1f66e50078ec52fc316e64e3129332ede9
 
 pub returns-clause-does : goal.returns-clause-does
 returns-clause-does c nodes =

@@ -11,11 +11,7 @@ abbrev pub invariant-points : goal.invariant-points
 invariant-points l = (
     ((nodes : List Node) (p : Prog _) → Moves nodes (push_texts l.array (points_of l.text) p) l.initial.state (push_texts l.array (points_of (drop l.at l.text)) p) l.state)
     × ((nodes : List Node) → IsClosed nodes l.initial.state → IsOpen l.initial.state.heap.cells l.array → GoesOn nodes l.initial.state l.state)
-<<<<<<< HEAD
-)
-=======
     )
->>>>>>> 49574e1f66e50078ec52fc316e64e3129332ede9
 
 abbrev pub decreases-points : goal.decreases-points
 decreases-points l = length l.text - l.at

@@ -13,19 +13,12 @@ returns-in-Some-clause-does c nodes =
     turn_ended nodes (λ p. push_items c.args.array c.args.values.now p) (λ p. push_items c.args.array (drop c.values.value-index c.args.values.now) p) (λ p. push_item c.args.array c.in_ok-value.value p) (λ p. push_items c.args.array (drop (c.values.value-index + 1) c.args.values.now) p) c.args.state.now c.values.state c.push.new.state (c.values.invariant.0 nodes) (λ p. items_turn c.args.array c.args.values.now c.values.value-index c.value-item.result c.in_ok-value.value p c.values-test.true c.value-item.is c.in_ok-value.ensures) c.in-Some.next (rw c.in-Some.is at (c.in_ok-next.ensures.does nodes))
 
 pub values-preserved : goal.values-preserved
-<<<<<<< HEAD
-values-preserved c = (λ nodes.
-    turn_more nodes (λ p. push_items c.args.array c.args.values.now p) (λ p. push_items c.args.array (drop c.values.value-index c.args.values.now) p) (λ p. push_item c.args.array c.in_ok-value.value p) (λ p. push_items c.args.array (drop (c.values.value-index + 1) c.args.values.now) p) c.args.state.now c.values.state c.push.new.state (c.values.invariant.0 nodes) (λ p. items_turn c.args.array c.args.values.now c.values.value-index c.value-item.result c.in_ok-value.value p c.values-test.true c.value-item.is c.in_ok-value.ensures) (rw c.in_default.is at (c.in_ok-next.ensures.does nodes)),
-    λ nodes closed unfrozen fit. let went = c.values.invariant.1 nodes closed unfrozen fit in
-    goes_on nodes c.args.state.now c.values.state c.push.new.state went (c.in_ok-next.ensures.closed nodes went.closed (went.grows.open_array c.args.array unfrozen) (value_at c.args.state.now.heap.cells c.values.state.heap.cells went.grows c.args.values.now c.values.value-index c.value-item.result c.in_ok-value.value fit c.values-test.true c.value-item.is c.in_ok-value.ensures)))
-=======
 values-preserved c = (
   λ nodes.
       turn_more nodes (λ p. push_items c.args.array c.args.values.now p) (λ p. push_items c.args.array (drop c.values.value-index c.args.values.now) p) (λ p. push_item c.args.array c.in_ok-value.value p) (λ p. push_items c.args.array (drop (c.values.value-index + 1) c.args.values.now) p) c.args.state.now c.values.state c.push.new.state (c.values.invariant.0 nodes) (λ p. items_turn c.args.array c.args.values.now c.values.value-index c.value-item.result c.in_ok-value.value p c.values-test.true c.value-item.is c.in_ok-value.ensures) (rw c.in_default.is at (c.in_ok-next.ensures.does nodes)),
   λ nodes closed unfrozen fit. let went = c.values.invariant.1 nodes closed unfrozen fit in
       goes_on nodes c.args.state.now c.values.state c.push.new.state went (c.in_ok-next.ensures.closed nodes went.closed (went.grows.open_array c.args.array unfrozen) (value_at c.args.state.now.heap.cells c.values.state.heap.cells went.grows c.args.values.now c.values.value-index c.value-item.result c.in_ok-value.value fit c.values-test.true c.value-item.is c.in_ok-value.ensures)),
 )
->>>>>>> 49574e1f66e50078ec52fc316e64e3129332ede9
 
 pub returns-clause-does : goal.returns-clause-does
 returns-clause-does c nodes =

@@ -12,8 +12,4 @@ abbrev pub invariant-values : goal.invariant-values
 invariant-values l = (
     ((nodes : List Node) (p : Prog _) → Moves nodes (push_items l.array l.values p) l.initial.state (push_items l.array (drop l.value-index l.values) p) l.state)
     × ((nodes : List Node) → IsClosed nodes l.initial.state → IsOpen l.initial.state.heap.cells l.array → ListOver (ValueFits l.initial.state.heap.cells) l.values → GoesOn nodes l.initial.state l.state)
-<<<<<<< HEAD
-)
-=======
     )
->>>>>>> 49574e1f66e50078ec52fc316e64e3129332ede9
