@@ -1,6 +1,8 @@
 -- What is read, written and removed fits a heap, and the heap goes on.
-use Rattle.std.proofs.Common.{◌≡◌, ℕ, ℤ, pos, negsuc, ◌≤ℤ◌, T, List, [], ◌∷◌, Option, Some, None, Bool, true, false, cond, int_le, nat_eq, if◌then◌else◌, refl, sym, ap, ◌∙◌, subst, option_and_then}
+use Rattle.std.proofs.Common.{◌≡◌, ℕ, ℤ, pos, negsuc, ◌≤ℤ◌, T, List, [], ◌∷◌, Option, Some, None, Bool, true, false, cond, int_le, ◌<◌, ◌^◌, FitsSigned, arith, nat_eq, if◌then◌else◌, refl, sym, ap, ◌∙◌, subst, option_and_then}
 use Rattle.std.proofs.lemmas.Float.{T_from_true}
+use Rattle.std.proofs.lemmas.Int.{ints}
+use Rattle.std.specs.Int.{w64}
 use Rattle.std.specs.Int.Signed.{le_z_yes}
 use Rattle.std.specs.Prelude.{◌&&◌}
 use Rattle.std.specs.Option.{option_map_or}
@@ -54,6 +56,11 @@ safe_is : (z : ℤ) → is_safe z ≡ true → IsSafe z
 safe_is z is =
     let halves = both (int_le (negsuc 9_007_199_254_740_990) z) (int_le z (pos 9_007_199_254_740_991)) is in
     record { low = le_z_yes (T_from_true _ halves.0); high = le_z_yes (T_from_true _ halves.1) }
+
+-- it has 64 bits
+pub wide : (z : ℤ) → IsSafe z → FitsSigned w64 z
+wide (pos n) h = let high = h.high in record { sfits = omega (arith, ints) }
+wide (negsuc n) h = let low = h.low in record { sfits = omega (arith, ints) }
 
 told_fits : (cells : List (ℕ × Cell ℕ)) (answer : Answer ℕ) (z : ℤ) (safe : Bool) → is_safe z ≡ safe → computed_of answer ≡ (if safe then Is (Num z) else Fails NotAWholeNumber) → AnswerFits cells answer
 told_fits cells (answers.Is v) z true safe e = let same : v ≡ Num z = cc in rw same (safe_is z safe)
