@@ -1,5 +1,5 @@
 -- What is read, written and removed fits a heap, and the heap goes on.
-use Rattle.std.proofs.Common.{◌≡◌, ℕ, ℤ, pos, negsuc, ◌≤ℤ◌, T, List, [], ◌∷◌, Option, Some, None, Bool, true, false, cond, int_le, ◌<◌, ◌^◌, FitsSigned, arith, nat_eq, if◌then◌else◌, refl, sym, ap, ◌∙◌, subst, option_and_then}
+use Rattle.std.proofs.Common.{◌≡◌, ℕ, ℤ, pos, negsuc, List, [], ◌∷◌, Option, Some, None, Bool, true, false, cond, int_le, FitsSigned, arith, nat_eq, if◌then◌else◌, refl, sym, ap, ◌∙◌, subst, option_and_then}
 use Rattle.std.proofs.lemmas.Float.{T_from_true}
 use Rattle.std.proofs.lemmas.Int.{ints}
 use Rattle.std.specs.Int.{w64}
@@ -11,7 +11,7 @@ use Rattle.world_heap.specs.declared.value.Value.{Value}
 use Rattle.world_heap.specs.declared.value.Value.TheVariants.{Num}
 use Rattle.world_heap.specs.declared.cell.Body.{Body}
 use Rattle.world_heap.specs.declared.cell.Cell.{Cell}
-use Rattle.world_heap.specs.Maps.{find, put}
+use Rattle.world_heap.specs.Maps.{find}
 use Rattle.world_heap.specs.Table.{left_without}
 use Rattle.world_heap.specs.Bodies.{body_of, rebodied, with_body}
 use Rattle.world_heap.specs.Over.{ListOver, OptionOver, PropertyOver, IsSafe}
@@ -20,7 +20,7 @@ use Rattle.world_heap.proofs.Wells.{fits_found}
 use Rattle.world_heap.proofs.Bodying.{alike_body, body_fits, fits_body, rebodied_is}
 use Rattle.proto_props.specs.declared.remove.Removal.{Removal}
 use Rattle.proto_props.specs.declared.remove.Removal.TheVariants.{Absent, Fixed, Free}
-use Rattle.proto_props.specs.Removes.{after_removal, body_without, cells_without}
+use Rattle.proto_props.specs.Removes.{after_removal, body_without}
 use Rattle.js_tree.specs.declared.node.NodeId.{NodeId}
 use Rattle.js_tree.specs.declared.node.Node.{Node}
 use Rattle.js_tree.specs.declared.node.Node.TheVariants as kinds

@@ -38,10 +38,10 @@ module _ (nodes : List Node) (node callee : NodeId) (scope : Scope ℕ) where
 
 -- a callee that is told to be a property with a name has one
 pub called_fits : (nodes : List Node) (callee : NodeId) (called : Called) → called ≡ called_in (slice_get nodes callee.0) → CalledFits nodes callee called
+unfolding called_in
 called_fits nodes callee called is = rw is (named (slice_get nodes callee.0) refl)
   where
     named : (n : Option Node) → slice_get nodes callee.0 ≡ n → CalledFits nodes callee (called_in n)
-    unfolding called_in
     named (Some (kinds.Dot object name)) e = subst HasName (sym e) tt
     named (Some (kinds.Index object key)) e = tt
     named other e = tt

@@ -4,6 +4,6 @@ pub returns-then-spread-clause-closed : goal.returns-then-spread-clause-closed
 returns-then-spread-clause-closed c closed pending scope fit =
     c.spread_value.ensures.closed closed pending scope fit
 
-pub returns-clause-closed : goal.returns-clause-closed
-returns-clause-closed c closed pending scope fit =
+pub returns-else-spread-clause-closed : goal.returns-else-spread-clause-closed
+returns-else-spread-clause-closed c closed pending scope fit =
     c.argument_value.ensures.closed closed pending scope fit
