@@ -8,7 +8,7 @@ pub returns-in-Normal-clause-closed : goal.returns-in-Normal-clause-closed
 returns-in-Normal-clause-closed c closed frame outcome = c.value_frame.ensures.closed closed frame (rw c.in-Normal.is at outcome)
 
 pub returns-in_default : goal.returns-in_default
-returns-in_default c = 
+returns-in_default c =
     let nodes = nodes_of c.args.tree.now in
     record {
       does = passed_ok nodes 6 (λ v. value_rest nodes c.args.frame v) c.args.outcome _ _ _ c.in_default.not-Normal (omega arith) (c.give.ensures.few nodes);

@@ -1,3 +1,4 @@
+use Rattle.js_names.specs.Patterns.{nodes_of}
 use Rattle.js_semantics.specs.Rows.{row_of}
 use Rattle.js_machine.specs.Parts.{items_of}
 use Rattle.js_step.proofs.nodes.row_kind.Goals as goal
@@ -8,3 +9,6 @@ returns-in-Block-clause-does c = rw c.in-Block.is (rw (c.requires, c.in-Block.is
 
 pub returns-in-Block-clause-closed : goal.returns-in-Block-clause-closed
 returns-in-Block-clause-closed c closed scope = c.row_block.ensures.closed closed scope
+
+pub returns-in_default-clause-closed : goal.returns-in_default-clause-closed
+returns-in_default-clause-closed c closed scope = c.done.ensures.closed (nodes_of c.args.tree.now) closed

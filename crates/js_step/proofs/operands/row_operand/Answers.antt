@@ -1,7 +1,7 @@
 use Rattle.js_names.specs.Patterns.{nodes_of}
 use Rattle.js_semantics.specs.Rows.{row_of}
 use Rattle.js_machine.specs.Parts.{items_of, name_of, parts_of, texts_of}
-use Rattle.js_step.proofs.Closing.{literal_safe}
+use Rattle.js_step.proofs.Closing.{literal_fits}
 use Rattle.js_step.proofs.operands.row_operand.Goals as goal
 
 pub returns-in-Name-clause-does : goal.returns-in-Name-clause-does
@@ -45,7 +45,7 @@ pub returns-in-Bool-clause-closed : goal.returns-in-Bool-clause-closed
 returns-in-Bool-clause-closed c closed scope = c.row_literal-in-Bool.ensures.closed (nodes_of c.args.tree.now) closed tt
 
 pub returns-in-Num-clause-closed : goal.returns-in-Num-clause-closed
-returns-in-Num-clause-closed c closed scope = c.row_literal-in-Num.ensures.closed (nodes_of c.args.tree.now) closed (rw c.number_value.ensures (literal_safe c.in-Num.number.now))
+returns-in-Num-clause-closed c closed scope = c.row_literal-in-Num.ensures.closed (nodes_of c.args.tree.now) closed (literal_fits c.args.state.now.heap.cells _ c.in-Num.number c.number_value.ensures)
 
 pub returns-in-Str-clause-closed : goal.returns-in-Str-clause-closed
 returns-in-Str-clause-closed c closed scope = c.row_text.ensures.closed (nodes_of c.args.tree.now) closed

@@ -28,3 +28,14 @@ returns-clause-closed c closed =
     let nodes = nodes_of c.args.tree.now in
     let went = (rw c.in_ok-next.was at c.receive.ensures.closed) nodes closed in
     both nodes c.args.state.now c.receive.new.self c.turns.state went (c.turns.invariant.closed went.closed)
+
+pub returns-in_err-next-clause-closed : goal.returns-in_err-next-clause-closed
+returns-in_err-next-clause-closed c closed =
+    let p = err_from_is_err_and c.from_residual.result c.from_residual.ensures.1 in rw (p.1, p.2) (c.in_err-next.ensures.closed (nodes_of c.args.tree.now) closed)
+
+pub returns-in_err-next-2-clause-closed : goal.returns-in_err-next-2-clause-closed
+returns-in_err-next-2-clause-closed c closed =
+    let went = c.in_ok-next.ensures.closed (nodes_of c.args.tree.now) closed in
+    let turned = c.turns.invariant.closed went.closed in
+    let p = err_from_is_err_and c.from_residual-in_err-next-2.result c.from_residual-in_err-next-2.ensures.1 in
+    rw (p.1, p.2) (c.in_err-next-2.ensures.closed turned.closed)

@@ -23,17 +23,17 @@ pub returns-in-Native-clause-does : goal.returns-in-Native-clause-does
 returns-in-Native-clause-does c = native_next (nodes_of c.args.tree.now) c.args.state.now _ _ c.in-Native.id c.in-Native.receiver c.in-Native.arguments _ (sym c.replace-control.ensures.value ∙ c.in-Native.is) refl (rw c.as_slice.ensures at (c.native.ensures.does (nodes_of c.args.tree.now)))
 
 pub returns-in-Give-clause-does : goal.returns-in-Give-clause-does
-returns-in-Give-clause-does c = 
+returns-in-Give-clause-does c =
     let s : State = c.args.state.now in
     again_ok (nodes_of c.args.tree.now) s (record s { control = c.replace-control.new.dest }) c.take_up.new.state (Give c.in-Give.outcome) c.take_up.result (sym c.replace-control.ensures.value ∙ c.in-Give.is) refl c.take_up.ensures.does
 
 pub returns-in-AtRest-clause-does : goal.returns-in-AtRest-clause-does
-returns-in-AtRest-clause-does c = 
+returns-in-AtRest-clause-does c =
     let s : State = c.args.state.now in
     again_next (nodes_of c.args.tree.now) s (record s { control = c.replace-control.new.dest }) c.rest.new.state (AtRest c.in-AtRest.mode) _ (sym c.replace-control.ensures.value ∙ c.in-AtRest.is) refl (c.rest.ensures.does (nodes_of c.args.tree.now))
 
 pub returns-in-Script-clause-closed : goal.returns-in-Script-clause-closed
-returns-in-Script-clause-closed c closed = 
+returns-in-Script-clause-closed c closed =
     let nodes = nodes_of c.args.tree.now in
     let s : State = c.args.state.now in
     let here = at_stop nodes s c.replace-control.new.dest closed c.replace-control.ensures.after in
@@ -41,7 +41,7 @@ returns-in-Script-clause-closed c closed =
     c.row_script.ensures.closed here
 
 pub returns-in-Node-clause-closed : goal.returns-in-Node-clause-closed
-returns-in-Node-clause-closed c closed = 
+returns-in-Node-clause-closed c closed =
     let nodes = nodes_of c.args.tree.now in
     let s : State = c.args.state.now in
     let here = at_stop nodes s c.replace-control.new.dest closed c.replace-control.ensures.after in
@@ -49,7 +49,7 @@ returns-in-Node-clause-closed c closed =
     c.row_node.ensures.closed here fit
 
 pub returns-in-Bind-clause-closed : goal.returns-in-Bind-clause-closed
-returns-in-Bind-clause-closed c closed = 
+returns-in-Bind-clause-closed c closed =
     let nodes = nodes_of c.args.tree.now in
     let s : State = c.args.state.now in
     let here = at_stop nodes s c.replace-control.new.dest closed c.replace-control.ensures.after in
@@ -57,7 +57,7 @@ returns-in-Bind-clause-closed c closed =
     c.bind_pattern.ensures.closed here fit.0 fit.1
 
 pub returns-in-Member-clause-closed : goal.returns-in-Member-clause-closed
-returns-in-Member-clause-closed c closed = 
+returns-in-Member-clause-closed c closed =
     let nodes = nodes_of c.args.tree.now in
     let s : State = c.args.state.now in
     let here = at_stop nodes s c.replace-control.new.dest closed c.replace-control.ensures.after in
@@ -65,7 +65,7 @@ returns-in-Member-clause-closed c closed =
     c.row_member.ensures.closed here fit.0 fit.1
 
 pub returns-in-Native-clause-closed : goal.returns-in-Native-clause-closed
-returns-in-Native-clause-closed c closed = 
+returns-in-Native-clause-closed c closed =
     let nodes = nodes_of c.args.tree.now in
     let s : State = c.args.state.now in
     let here = at_stop nodes s c.replace-control.new.dest closed c.replace-control.ensures.after in
@@ -73,7 +73,7 @@ returns-in-Native-clause-closed c closed =
     c.native.ensures.closed nodes here fit.0 (rw c.as_slice.ensures fit.1)
 
 pub returns-in-Give-clause-closed : goal.returns-in-Give-clause-closed
-returns-in-Give-clause-closed c closed = 
+returns-in-Give-clause-closed c closed =
     let nodes = nodes_of c.args.tree.now in
     let s : State = c.args.state.now in
     let here = at_stop nodes s c.replace-control.new.dest closed c.replace-control.ensures.after in
@@ -81,7 +81,7 @@ returns-in-Give-clause-closed c closed =
     c.take_up.ensures.closed here fit
 
 pub returns-in-AtRest-clause-closed : goal.returns-in-AtRest-clause-closed
-returns-in-AtRest-clause-closed c closed = 
+returns-in-AtRest-clause-closed c closed =
     let nodes = nodes_of c.args.tree.now in
     let s : State = c.args.state.now in
     let here = at_stop nodes s c.replace-control.new.dest closed c.replace-control.ensures.after in

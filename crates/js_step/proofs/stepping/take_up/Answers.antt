@@ -11,7 +11,7 @@ pub returns-in-Some-clause-does : goal.returns-in-Some-clause-does
 returns-in-Some-clause-does c = took_up_ok (nodes_of c.args.tree.now) (weight c.in-Some.frame + 1) _ _ _ c.in-Some.frame c.args.outcome _ refl c.in-Some.ensures.items refl (omega arith) c.frame_end.ensures.does
 
 pub returns-in-Some-clause-closed : goal.returns-in-Some-clause-closed
-returns-in-Some-clause-closed c closed outcome = 
+returns-in-Some-clause-closed c closed outcome =
     let nodes = nodes_of c.args.tree.now in
     let s = c.args.state.now in
     let below = popped_rows nodes s _ c.in-Some.frame c.in-Some.ensures.items closed in

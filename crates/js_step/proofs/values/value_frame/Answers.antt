@@ -1,4 +1,3 @@
-
 use Rattle.js_step.proofs.values.value_frame.Goals as goal
 
 pub returns-in-Operand-clause-closed : goal.returns-in-Operand-clause-closed
