@@ -7,6 +7,7 @@ pub mod Played
 pub mod Windows
 pub mod Lines
 pub mod Joining
+pub mod Tasks
 pub mod Living
 pub mod Owing
 pub mod Silent

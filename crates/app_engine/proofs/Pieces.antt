@@ -1,5 +1,5 @@
 -- A text in two pieces, written whole or in front.
-use Rattle.std.proofs.Common.{◌≡◌, ℕ, ◌+◌, ◌-◌, ◌<◌, Bool, true, false, List, [], ◌∷◌, ◌++◌, map, length, drop, get_or, Option, Some, ap, sym, ◌∙◌, refl, arith, append_assoc, subst, length-append}
+use Rattle.std.proofs.Common.{◌≡◌, ℕ, ◌+◌, ◌-◌, ◌<◌, Bool, true, false, List, [], ◌∷◌, ◌++◌, map, length, drop, get_or, Option, Some, ap, sym, ◌∙◌, refl, arith, append_assoc, length-append}
 use Rattle.std.specs.Prelude.{if◌then◌else◌, slice_get}
 use Rattle.std.specs.List.{list_any}
 use Rattle.std.specs.Option.{option_map_or}
@@ -9,25 +9,22 @@ use Rattle.std.proofs.lemmas.Option.{slice_get-get_or}
 use Rattle.std.proofs.Math.Seq.{get_or-append_seam}
 use Rattle.wl_causes.specs.Taking.{with_more, TakesFront}
 use Rattle.wl_causes.proofs.Takes.{TakesFront-behind, with_more-none, with_more-twice}
-use Rattle.world_kind.specs.declared.WorldKind.TheVariants.{Main, Preload, Page}
+use Rattle.world_kind.specs.declared.WorldKind.TheVariants.{Preload, Page}
 use Rattle.world_heap.specs.declared.limits.Limits.{Limits}
 use Rattle.world_heap.specs.Bounded.{bounds_of}
 use Rattle.world_log.specs.declared.entry.Entry.{Entry}
 use Rattle.world_log.specs.declared.entry.LogItem.{LogItem}
-use Rattle.world_log.specs.declared.entry.LogItem.TheVariants.{World}
 use Rattle.world_log.specs.declared.entry.WorldName.{WorldName}
 use Rattle.world_log.specs.Print.{main_name, printed, printed_log}
 use Rattle.js_semantics.specs.Run.{Setting}
 use Rattle.js_semantics.specs.Alone.{alone}
 use Rattle.app_manifest.specs.declared.app.App.{App}
 use Rattle.app_manifest.specs.declared.app.WindowApp.{WindowApp}
-use Rattle.app_engine.specs.Log.{Application, Lawful, WindowScripts, first_load, is_stop, load, log_of, logged, page_log, page_name, preload_name, setting_of, transcript, window_log, windows_log}
-use Rattle.app_engine.specs.Laws.{IsOnlyLog, IsYielding, Yields}
+use Rattle.app_engine.specs.Log.{Application, Lawful, WindowScripts, first_load, is_stop, log_of, logged, page_log, page_name, preload_name, setting_of, transcript, window_log, windows_log}
+use Rattle.app_engine.specs.Laws.{IsOnlyLog}
 use Rattle.app_engine.specs.Machines.{lines_of, world_setting}
 use Rattle.app_engine.specs.Applications.{application_of, main_lines, window_lines, window_of, windows_lines}
-use Rattle.app_engine.proofs.Lists.{tails}
 use Rattle.app_engine.proofs.Windows.{only_log}
-use Rattle.app_engine.proofs.Yielded.{yielding}
 
 pub front_in : (whole a b : List ℕ) (before taken : Option (List ℕ)) → whole ≡ a ++ b → TakesFront a before taken → TakesFront whole before taken
 front_in whole a b before taken e t = TakesFront-behind whole [] a b before before taken e (sym (with_more-none before)) t
@@ -43,12 +40,6 @@ one_piece whole a before taken e w = w ∙ ap (λ (xs : List ℕ). with_more xs 
 
 pub front_whole : (text : List ℕ) (before taken : Option (List ℕ)) → taken ≡ with_more text before → TakesFront text before taken
 front_whole text before taken e = (text, [], sym (append-nil text), e)
-
--- ---- a world's lines
-
-pub lines-load : (name : WorldName) (es products : List Entry) → es ≡ load ∷ products → lines_of name es ≡ printed (World name load) ++ lines_of name products
-unfolding lines_of printed_log
-lines-load name es products e = ap (λ (xs : List Entry). lines_of name xs) e
 
 -- ---- a window's lines
 

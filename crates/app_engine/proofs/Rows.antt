@@ -1,13 +1,11 @@
 -- An application of two windows whose first preload script stops: its log, and what is due in it.
-use Rattle.std.specs.Prelude.{◌≡◌, ℕ, List, [], ◌∷◌, refl}
-use Rattle.js_tree.specs.declared.node.NodeId.{NodeId}
+use Rattle.std.specs.Prelude.{◌≡◌, List, [], ◌∷◌, refl}
 use Rattle.js_tree.specs.declared.node.Node.{Node}
 use Rattle.js_tree.specs.declared.node.Node.TheVariants as kinds
 use Rattle.world_log.specs.declared.entry.Product.TheVariants.{Rest, Stopped}
 use Rattle.world_log.specs.declared.entry.Stop.TheVariants.{Fuel}
 use Rattle.world_log.specs.declared.entry.Entry.{Entry}
 use Rattle.world_log.specs.declared.entry.Entry.TheVariants.{Product}
-use Rattle.world_log.specs.declared.entry.LogItem.{LogItem}
 use Rattle.world_log.specs.declared.entry.LogItem.TheVariants.{World}
 use Rattle.world_log.specs.Print.{main_name}
 use Rattle.js_semantics.specs.Prog.{alloc, count_units}

@@ -1,20 +1,16 @@
--- What is written of the products of a world.
-use Rattle.std.specs.Prelude.{ℕ, List, map, Bool, true, false}
+-- What is written of the entries of a world.
+use Rattle.std.specs.Prelude.{ℕ, List, map}
 use Rattle.world_kind.specs.declared.WorldKind.{WorldKind}
 use Rattle.world_heap.specs.declared.limits.Limits.{Limits}
 use Rattle.world_heap.specs.Bounded.{bounds_of}
 use Rattle.js_tree.specs.Nodes.{Nodes}
-use Rattle.world_log.specs.declared.entry.Product.{Product as ProductType}
 use Rattle.world_log.specs.declared.entry.Entry.{Entry}
-use Rattle.world_log.specs.declared.entry.Entry.TheVariants.{Product}
 use Rattle.world_log.specs.declared.entry.WorldName.{WorldName}
 use Rattle.world_log.specs.Print.{printed_log}
 use Rattle.js_semantics.specs.Run.{Setting}
-use Rattle.world_machine.specs.declared.yielding.Yield.{Yield}
-use Rattle.world_machine.specs.declared.yielding.Yield.TheVariants as ends
 use Rattle.app_engine.specs.Log.{logged}
 use Rattle.app_engine.specs.declared.player.PlayFault.{PlayFault}
-use Rattle.app_engine.specs.declared.player.PlayFault.TheVariants.{Memory, Dangling, Sink}
+use Rattle.app_engine.specs.declared.player.PlayFault.TheVariants.{Memory, Sink}
 
 -- the world of a kind with these limits and this script
 abbrev pub world_setting : WorldKind → Limits → Nodes → Setting
@@ -24,17 +20,7 @@ world_setting kind limits script = record { kind = kind; limits = bounds_of limi
 unfoldable pub lines_of : WorldName → List Entry → List ℕ
 lines_of name entries = printed_log (logged name entries)
 
--- the entries of products
-abbrev pub made_of : List ProductType → List Entry
-made_of products = map Product products
-
--- whether a world that yields so has stopped
-abbrev pub stops : Yield → Bool
-stops (ends.Rest jobs) = false
-stops (ends.Stopped stop) = true
-
 -- A fault of the sink comes only where its count rose.
 abbrev pub HasCause : Type 0 → PlayFault → Type 0
 HasCause rose Memory = Unit {0}
-HasCause rose Dangling = Unit {0}
 HasCause rose Sink = rose

@@ -10,7 +10,6 @@ ghost use Rattle.app_engine.specs.Machines.{HasCause, lines_of, world_setting};
 
 use crate::loading::{Loaded, load_world};
 use crate::player::PlayFault;
-use crate::writing::write_loaded;
 use js_tree::Tree;
 use sqlite_items::Items;
 use std::alloc::Global;
@@ -46,7 +45,7 @@ impl Kept {
         }
     }
 
-    // A new world takes its load, and its lines are written. Says whether it has stopped.
+    // A new world takes its load, and its lines are written as they are made. Says whether it has stopped.
     pub(crate) fn load<K: Sink>(
         &mut self,
         alloc: Global,
@@ -74,9 +73,8 @@ impl Kept {
         let Loaded {
             world,
             pool,
-            made,
             stopped,
-        } = match load_world(alloc, name.kind, limits, script, pool) {
+        } = match load_world(alloc, name, limits, script, pool, sink) {
             Ok(loaded) => loaded,
             Err(fault) => return Err(fault),
         };
@@ -84,10 +82,6 @@ impl Kept {
         match self.live.push(LiveWorld { name, world }) {
             Ok(()) => {}
             Err(_) => return Err(PlayFault::Memory),
-        }
-        match write_loaded(alloc, name, made, sink) {
-            Ok(()) => {}
-            Err(fault) => return Err(fault),
         }
         Ok(stopped)
     }

@@ -23,16 +23,15 @@ use world_log::WorldName;
 pub enum PlayFault {
     /// Memory ran out.
     Memory,
-    /// A world met a location that doesn't stand in its heap. That this never happens isn't proved.
-    Dangling,
     /// The sink failed.
     Sink,
 }
 
 /// Plays an application: loads its main script, and then for each window, ascending, its preload script and its page's.
 /// A world that stops ends its process, so a page whose preload script's world stopped isn't loaded, and a page's stop
-/// ends its preload script's world. Writes the printed log, each line as soon as its world has yielded. After a fault a
-/// front of it was taken; a fault of the sink comes only where the sink's count rose.
+/// ends its preload script's world. Writes the printed log, each line as soon as its item is made, so that no more
+/// than one product stands in memory. After a fault a front of it was taken; a fault of the sink comes only where the
+/// sink's count rose.
 ///
 /// What is kept are the worlds whose process hasn't ended in the log, in the order of their loads. From each is still to
 /// come what it makes alone behind its part of the log, for every list of further deliveries; the pool has no cells but

@@ -1,16 +1,15 @@
 //! The log, written as it is made.
-ghost use Rattle.std.specs.Prelude.{◌≡◌, ◌≤◌, ◌∷◌, IfErr, OnOk};
+ghost use Rattle.std.specs.Prelude.{◌≡◌, ◌≤◌, IfErr, OnOk};
 ghost use Rattle.wl_causes.specs.Causes.{Rose};
 ghost use Rattle.wl_causes.specs.Taking.{with_more, TakesFront};
 ghost use Rattle.world_log.specs.Print.{printed};
 ghost use Rattle.world_log.specs.declared.entry.LogItem.TheVariants.{World};
-ghost use Rattle.app_engine.specs.Log.{load};
-ghost use Rattle.app_engine.specs.Machines.{HasCause, lines_of, made_of};
+ghost use Rattle.app_engine.specs.Machines.{HasCause};
 
 use crate::player::PlayFault;
 use std::alloc::Global;
 use wl_causes::{Sink, write_whole};
-use world_log::{Delivery, Entry, LogItem, Product, WorldName, print};
+use world_log::{Entry, LogItem, WorldName, print};
 
 /// Writes the line of an item.
 pub fn write_item<K: Sink>(alloc: Global, item: &LogItem, sink: &mut K) -> Result<(), PlayFault>
@@ -44,54 +43,6 @@ pub fn write_entry<K: Sink>(
 {
     let item = LogItem::World(name, entry);
     match write_item(alloc, &item, sink) {
-        Ok(()) => {}
-        Err(fault) => return Err(fault),
-    }
-    Ok(())
-}
-
-/// Writes the lines of what a world made.
-pub fn write_products<K: Sink>(
-    alloc: Global,
-    name: WorldName,
-    products: Vec<Product>,
-    sink: &mut K,
-) -> Result<(), PlayFault>
-    ensures ok { OnOk result (K.taken sink.new ≡ with_more (lines_of name (made_of products.items)) (K.taken sink.old)) }
-    ensures front { TakesFront (lines_of name (made_of products.items)) (K.taken sink.old) (K.taken sink.new) }
-    ensures err { IfErr result (HasCause (Rose (K.faults sink.old) (K.faults sink.new))) }
-    ensures later { K.faults sink.old ≤ K.faults sink.new }
-{
-    'products: for product in products {
-        match write_entry(alloc, name, Entry::Product(product), sink) {
-            Ok(()) => {}
-            Err(fault) => return Err(fault),
-        }
-    }
-    Ok(())
-}
-
-/// Writes the lines of a world's load and of what it made of it.
-pub fn write_loaded<K: Sink>(
-    alloc: Global,
-    name: WorldName,
-    made: Vec<Product>,
-    sink: &mut K,
-) -> Result<(), PlayFault>
-    ensures ok { OnOk result (K.taken sink.new ≡ with_more (lines_of name (load ∷ made_of made.items)) (K.taken sink.old)) }
-    ensures front { TakesFront (lines_of name (load ∷ made_of made.items)) (K.taken sink.old) (K.taken sink.new) }
-    ensures err { IfErr result (HasCause (Rose (K.faults sink.old) (K.faults sink.new))) }
-    ensures later { K.faults sink.old ≤ K.faults sink.new }
-{
-    let fresh_load = Entry::Delivery {
-        fresh: true,
-        what: Delivery::Load,
-    };
-    match write_entry(alloc, name, fresh_load, sink) {
-        Ok(()) => {}
-        Err(fault) => return Err(fault),
-    }
-    match write_products(alloc, name, made, sink) {
         Ok(()) => {}
         Err(fault) => return Err(fault),
     }

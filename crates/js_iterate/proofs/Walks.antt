@@ -3,7 +3,6 @@ use Rattle.std.proofs.Common.{◌≡◌, ℕ, ◌≤◌, List, [], Option, Some,
 use Rattle.std.specs.Prelude.{slice_get}
 use Rattle.js_tree.specs.declared.node.NodeId.{NodeId}
 use Rattle.js_tree.specs.declared.node.Node.{Node}
-use Rattle.js_tree.specs.declared.node.Node.TheVariants as kinds
 use Rattle.js_semantics.specs.declared.scope.Scope.{Scope}
 use Rattle.js_step_object.specs.Elements.{spread_in}
 use Rattle.js_step_object.proofs.Pushing.{element_is, element_row}

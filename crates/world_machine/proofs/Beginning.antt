@@ -11,6 +11,7 @@ use Rattle.js_semantics.specs.Alone.{IsRenamed, alone, alone_by}
 use Rattle.js_semantics.specs.Run.{Arrival, Setting, Trace, entries}
 use Rattle.js_semantics.proofs.Relocating.{alone_same}
 use Rattle.js_machine.specs.declared.state.State.{State}
+use Rattle.js_machine.specs.Closed.{IsClosed}
 use Rattle.js_machine.specs.Does.{Follows, IsFresh, awaits_in, is_running, to_come}
 use Rattle.world_log.specs.declared.entry.Delivery.TheVariants.{Load}
 use Rattle.world_machine.proofs.Awaiting.{awaited_by}
@@ -45,8 +46,8 @@ module _ (nodes : List Node) (setting : Setting) (s : State) (m : Machine) (pool
 
 pub begun : (script : List (Node × ℕ)) (kind : WorldKind) (limits : Bounds) (old : PoolView) (s : State) (m : Machine) (new : PoolView) → IsFresh kind (with_built_in (empty_heap limits old) s.heap.cells) s
     → ((supply : ℕ → ℕ) (ds : List Arrival) → Follows supply 0 s.heap.cells → to_come (nodes_of script) supply s ds ≡ alone_by supply (record { kind = kind; limits = limits; tree = nodes_of script }) ds)
-    → Parts s m new → IsBegun (alone (record { kind = kind; limits = limits; tree = nodes_of script })) (alone_cells (record { kind = kind; limits = limits; tree = nodes_of script })) old (record { script = script; machine = Some m }) new
-begun script kind limits old s m new fresh traces p =
+    → IsClosed (nodes_of script) s → Parts s m new → IsBegun (alone (record { kind = kind; limits = limits; tree = nodes_of script })) (alone_cells (record { kind = kind; limits = limits; tree = nodes_of script })) old (record { script = script; machine = Some m }) new
+begun script kind limits old s m new fresh traces closed p =
     let nodes = nodes_of script in
     let setting : Setting = record { kind = kind; limits = limits; tree = nodes } in
     let world : World = record { script = script; machine = Some m } in
@@ -59,6 +60,7 @@ begun script kind limits old s m new fresh traces p =
       owned = p.owned;
       below = omega (arith, owner, given);
       distinct = p.distinct;
+      closed = subst (IsClosed nodes) (sym p.state) closed;
       waits = waits;
       turns = turns_in nodes setting s m new p traces;
     } in

@@ -4,3 +4,4 @@ pub mod Pools
 pub mod Awaiting
 pub mod Beginning
 pub mod Resuming
+pub mod Passing

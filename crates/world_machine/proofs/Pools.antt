@@ -12,10 +12,12 @@ use Rattle.world_log.specs.declared.entry.Entry.{Entry}
 use Rattle.js_names.specs.Patterns.{nodes_of}
 use Rattle.js_semantics.specs.Run.{Arrival}
 use Rattle.js_machine.specs.Does.{Follows}
+use Rattle.js_machine.specs.Closed.{AllFit, IsClosed}
+use Rattle.js_machine.specs.declared.state.State.{State}
 use Rattle.alone_laws.specs.Turns.{Turns}
 use Rattle.world_machine.specs.declared.machine.Machine.{Machine}
 use Rattle.world_machine.specs.declared.world.World.{World}
-use Rattle.world_machine.specs.World.{Counts, IsComing, IsFilling, IsIn, Promises, Sits, Spares, coming_from, owner_of, size_in}
+use Rattle.world_machine.specs.World.{Counts, IsComing, IsFilling, IsIn, IsRunning, Promises, Sits, Spares, Turning, coming_from, heap_in, owner_of, size_in, state_over}
 
 module _ {C : Type 0} where
   pub find-without : (maps : List (ℕ × C)) (o k : ℕ) → k ≢ o → find nat_eq (without nat_eq maps o) k ≡ find nat_eq maps k
@@ -40,6 +42,7 @@ sits_still script m old new h cells s more = record {
   owned = record { stands = s; counted = sym (ap length cells) ∙ h.owned.counted };
   below = omega (arith, h.below, more);
   distinct = subst (λ cs. IsDistinct (keys cs)) cells h.distinct;
+  closed = subst (λ cs. AllFit script m.kind cs m.frames.items m.control) cells h.closed;
   waits = h.waits;
   turns = λ supply ds f. subst (λ cs. Turns false (coming_from script supply m cs ds)) cells (h.turns supply ds (subst (λ cs. Follows supply 0 cs) (sym cells) f));
 }
@@ -63,6 +66,37 @@ sits_at w pool m e h =
 pub in_by : (w : World) (pool : PoolView) (m : Machine) → w.machine ≡ Some m → Sits (nodes_of w.script) m pool → IsIn w pool
 unfolding IsIn
 in_by w pool m e h = subst (λ x. IsSomeAnd x (λ m. Sits (nodes_of w.script) m pool)) (sym e) h
+
+-- the same where it may be running
+pub running_in : (w : World) (pool : PoolView) → IsRunning w pool → (m : Machine) × (w.machine ≡ Some m) × Turning (nodes_of w.script) m pool
+unfolding IsRunning
+running_in w pool h = elim w.machine as (λ x. IsSomeAnd x (λ m. Turning (nodes_of w.script) m pool) → (m : Machine) × (x ≡ Some m) × Turning (nodes_of w.script) m pool) [
+  | None ↦ λ q. absurd q
+  | Some m ↦ λ q. (m, refl, q)
+] h
+
+pub running_at : (w : World) (pool : PoolView) (m : Machine) → w.machine ≡ Some m → IsRunning w pool → Turning (nodes_of w.script) m pool
+running_at w pool m e h =
+    let at = running_in w pool h in
+    let one : Some at.0 ≡ Some m = sym at.1 ∙ e in
+    let same : at.0 ≡ m = cc in
+    subst (λ x. Turning (nodes_of w.script) x pool) same at.2
+
+pub running_by : (w : World) (pool : PoolView) (m : Machine) → w.machine ≡ Some m → Turning (nodes_of w.script) m pool → IsRunning w pool
+unfolding IsRunning
+running_by w pool m e h = subst (λ x. IsSomeAnd x (λ m. Turning (nodes_of w.script) m pool)) (sym e) h
+
+-- its state over its heap is closed
+pub taken_closed : (w : World) (script : List (Node × ℕ)) (o : Machine) (pool : PoolView) (s : State) → w.machine ≡ Some o → w.script ≡ script → IsRunning w pool → s ≡ state_over o (heap_in o.seat pool) → IsClosed (nodes_of script) s
+taken_closed w script o pool s wo ws runs s_is =
+    let at : Turning (nodes_of script) o pool = subst (λ x. Turning (nodes_of x) o pool) ws (running_at w pool o wo runs) in
+    subst (IsClosed (nodes_of script)) (sym s_is) at.closed
+
+-- what stands between two deliveries may go on
+pub runs_in : (w : World) (pool : PoolView) → IsIn w pool → IsRunning w pool
+runs_in w pool h =
+    let at = machine_in w pool h in
+    running_by w pool at.0 at.1 (record { owned = at.2.owned; below = at.2.below; distinct = at.2.distinct; closed = at.2.closed; inside = false; turns = at.2.turns })
 
 pub coming_by : (w : World) (pool : PoolView) (m : Machine) (coming : List Arrival → List Entry) → w.machine ≡ Some m → Promises (nodes_of w.script) m (values_of pool.maps m.seat.owner) coming → IsComing w pool coming
 unfolding IsComing

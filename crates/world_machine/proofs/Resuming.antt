@@ -15,6 +15,7 @@ use Rattle.world_log.specs.declared.entry.Stop.{Stop}
 use Rattle.js_names.specs.Patterns.{nodes_of}
 use Rattle.js_semantics.specs.Run.{Arrival, entries}
 use Rattle.js_machine.specs.declared.state.State.{State}
+use Rattle.js_machine.specs.Closed.{IsClosed}
 use Rattle.js_machine.specs.Does.{Follows, awaits_in, is_running, to_come}
 use Rattle.js_step.specs.Resuming.{Resumes as StepResumes}
 use Rattle.alone_laws.specs.Sizes.{cells_at_end}
@@ -35,7 +36,7 @@ drop_made (p ∷ ps) es = drop_made ps es
 
 -- from one machine in its pool to the next, by a delivery
 module _ (script : List Node) (d : Arrival) (o m : Machine) (old new : PoolView) (s t : State) (made : List Product)
-    (h : Sits script o old) (s_is : s ≡ state_over o (heap_in o.seat old)) (r : StepResumes script d s made t) (p : Parts t m new) where
+    (h : Sits script o old) (s_is : s ≡ state_over o (heap_in o.seat old)) (r : StepResumes script d s made t) (fits : IsClosed script t) (p : Parts t m new) where
   before : List (ℕ × Cell ℕ)
   before = values_of old.maps o.seat.owner
 
@@ -109,6 +110,7 @@ module _ (script : List Node) (d : Arrival) (o m : Machine) (old new : PoolView)
       owned = p.owned;
       below = omega (arith, h.below, owner, given);
       distinct = p.distinct;
+      closed = subst (IsClosed script) (sym p.state) fits;
       waits = waits;
       turns = λ supply ds f. turns_behind y made _ e (turn supply ds f);
     }
@@ -152,35 +154,35 @@ module _ (script : List Node) (d : Arrival) (o m : Machine) (old new : PoolView)
           behind_is some.0 ds some.1 some.2 ∙ none_behind y stop made _ e q (turn some.0 ds some.2)
 
 -- the world's delivery
-pub resumed : (w v : World) (script : List (Node × ℕ)) (d : Arrival) (o m : Machine) (old new : PoolView) (s t : State) (made : List Product) → w.machine ≡ Some o → v.machine ≡ Some m → w.script ≡ script → v.script ≡ script → IsIn w old → s ≡ state_over o (heap_in o.seat old) → StepResumes (nodes_of script) d s made t → Parts t m new
+pub resumed : (w v : World) (script : List (Node × ℕ)) (d : Arrival) (o m : Machine) (old new : PoolView) (s t : State) (made : List Product) → w.machine ≡ Some o → v.machine ≡ Some m → w.script ≡ script → v.script ≡ script → IsIn w old → s ≡ state_over o (heap_in o.seat old) → StepResumes (nodes_of script) d s made t → IsClosed (nodes_of script) t → Parts t m new
     → (y : Yield) → EndsBy y made → Resumes d w old made y v new
 unfolding is_awaited before now
-resumed w v script d o m old new s t made wo vm ws vs stands s_is r p y e =
+resumed w v script d o m old new s t made wo vm ws vs stands s_is r fits p y e =
     let nodes = nodes_of script in
     let h : Sits nodes o old = subst (λ x. Sits (nodes_of x) o old) ws (sits_at w old o wo stands) in
-    let is_owner = owner nodes d o m old new s t made h s_is r p in
+    let is_owner = owner nodes d o m old new s t made h s_is r fits p in
     let into : (coming : List Arrival → List Entry) → IsComing w old coming → Promises nodes o (values_of old.maps o.seat.owner) coming = λ coming c. subst (λ x. Promises (nodes_of x) o (values_of old.maps o.seat.owner) coming) ws (promises_by w old o coming wo c) in
     let counted_by : (count : List Arrival → ℕ) → IsFilling w old count → Counts nodes o (values_of old.maps o.seat.owner) count = λ count c. subst (λ x. Counts (nodes_of x) o (values_of old.maps o.seat.owner) count) ws (counts_by w old o count wo c) in
     record {
-      stands = in_by v new m vm (subst (λ x. Sits (nodes_of x) m new) (sym vs) (sits nodes d o m old new s t made h s_is r p y e));
-      comes = λ coming c. coming_by v new m _ vm (subst (λ x. Promises (nodes_of x) m (values_of new.maps m.seat.owner) (behind coming d made)) (sym vs) (comes nodes d o m old new s t made h s_is r p y e coming (into coming c)));
-      law = λ coming ds c. law nodes d o m old new s t made h s_is r p y e coming (into coming c) ds;
-      rests = λ coming c. rests nodes d o m old new s t made h s_is r p y e coming (into coming c);
-      fills = λ count c. filling_by v new m _ vm (subst (λ x. Counts (nodes_of x) m (values_of new.maps m.seat.owner) (λ ds. count (d ∷ ds))) (sym vs) (fills nodes d o m old new s t made h s_is r p count (counted_by count c)));
-      size = λ count c. size_by v new m vm ∙ size nodes d o m old new s t made h s_is r p count (counted_by count c);
+      stands = in_by v new m vm (subst (λ x. Sits (nodes_of x) m new) (sym vs) (sits nodes d o m old new s t made h s_is r fits p y e));
+      comes = λ coming c. coming_by v new m _ vm (subst (λ x. Promises (nodes_of x) m (values_of new.maps m.seat.owner) (behind coming d made)) (sym vs) (comes nodes d o m old new s t made h s_is r fits p y e coming (into coming c)));
+      law = λ coming ds c. law nodes d o m old new s t made h s_is r fits p y e coming (into coming c) ds;
+      rests = λ coming c. rests nodes d o m old new s t made h s_is r fits p y e coming (into coming c);
+      fills = λ count c. filling_by v new m _ vm (subst (λ x. Counts (nodes_of x) m (values_of new.maps m.seat.owner) (λ ds. count (d ∷ ds))) (sym vs) (fills nodes d o m old new s t made h s_is r fits p count (counted_by count c)));
+      size = λ count c. size_by v new m vm ∙ size nodes d o m old new s t made h s_is r fits p count (counted_by count c);
       yields = e;
-      stops = λ coming stop ds q c. stops nodes d o m old new s t made h s_is r p y e coming (into coming c) stop ds q;
-      closed = λ stop what q. ap (λ x. option_map_or (λ (n : Machine). awaits_in n.control n.loaded what) x false) vm ∙ closed nodes d o m old new s t made h s_is r p y e stop what q;
+      stops = λ coming stop ds q c. stops nodes d o m old new s t made h s_is r fits p y e coming (into coming c) stop ds q;
+      closed = λ stop what q. ap (λ x. option_map_or (λ (n : Machine). awaits_in n.control n.loaded what) x false) vm ∙ closed nodes d o m old new s t made h s_is r fits p y e stop what q;
       owner = owner_by v m vm ∙ ap Some is_owner ∙ sym (owner_by w o wo);
-      spares = spares_without w o.seat.owner old new (owner_by w o wo) (others nodes d o m old new s t made h s_is r p) (omega (arith, given nodes d o m old new s t made h s_is r p));
-      given = given nodes d o m old new s t made h s_is r p;
-      count = count nodes d o m old new s t made h s_is r p;
+      spares = spares_without w o.seat.owner old new (owner_by w o wo) (others nodes d o m old new s t made h s_is r fits p) (omega (arith, given nodes d o m old new s t made h s_is r fits p));
+      given = given nodes d o m old new s t made h s_is r fits p;
+      count = count nodes d o m old new s t made h s_is r fits p;
     }
 
 -- and the yield of what is made
-pub yielded : (w v : World) (script : List (Node × ℕ)) (d : Arrival) (o m : Machine) (old new : PoolView) (s t : State) (made : List Product) → w.machine ≡ Some o → w.script ≡ script → IsIn w old → s ≡ state_over o (heap_in o.seat old) → StepResumes (nodes_of script) d s made t → Parts t m new → (y : Yield) × EndsBy y made
-yielded w v script d o m old new s t made wo ws stands s_is r p =
-    ends (nodes_of script) d o m old new s t made (subst (λ x. Sits (nodes_of x) o old) ws (sits_at w old o wo stands)) s_is r p
+pub yielded : (w v : World) (script : List (Node × ℕ)) (d : Arrival) (o m : Machine) (old new : PoolView) (s t : State) (made : List Product) → w.machine ≡ Some o → w.script ≡ script → IsIn w old → s ≡ state_over o (heap_in o.seat old) → StepResumes (nodes_of script) d s made t → IsClosed (nodes_of script) t → Parts t m new → (y : Yield) × EndsBy y made
+yielded w v script d o m old new s t made wo ws stands s_is r fits p =
+    ends (nodes_of script) d o m old new s t made (subst (λ x. Sits (nodes_of x) o old) ws (sits_at w old o wo stands)) s_is r fits p
 
 -- the world's end
 pub ended : (w : World) (o : Machine) (old new : PoolView) (s : State) → w.machine ≡ Some o → IsIn w old → s ≡ state_over o (heap_in o.seat old) → new ≡ record { maps = s.heap.others; given = s.heap.given } → IsEnded w old new

@@ -11,12 +11,14 @@ use Rattle.world_heap.specs.Views.{HeapView, PoolView, SeatView, IsOwned}
 use Rattle.world_log.specs.declared.entry.Delivery.{Delivery}
 use Rattle.world_log.specs.declared.entry.Delivery.TheVariants.{Load}
 use Rattle.world_log.specs.declared.entry.Product as log
+use Rattle.world_log.specs.declared.entry.Product.TheVariants as products
 use Rattle.world_log.specs.declared.entry.Entry.{Entry}
 use Rattle.world_log.specs.declared.entry.Entry.TheVariants as entry
 use Rattle.js_names.specs.Patterns.{nodes_of}
 use Rattle.js_semantics.specs.Run.{Arrival, Trace, entries}
 use Rattle.js_machine.specs.declared.state.State.{State}
-use Rattle.js_machine.specs.Does.{Follows, awaits_in, is_running, to_come}
+use Rattle.js_machine.specs.Closed.{AllFit}
+use Rattle.js_machine.specs.Does.{Follows, awaits_in, is_running, to_come, work}
 use Rattle.alone_laws.specs.Sizes.{cells_at_end}
 use Rattle.alone_laws.specs.Turns.{Turns}
 use Rattle.world_machine.specs.declared.machine.Machine.{Machine}
@@ -61,9 +63,13 @@ pub record Parts (s : State) (m : Machine) (pool : PoolView) : Type 0 where
 abbrev pub AreDistinct : (ℕ → ℕ) → Type 0
 AreDistinct supply = (a b : ℕ) → supply a ≡ supply b → a ≡ b
 
+-- the state of a machine over these cells, in a pool without others
+abbrev pub state_with : Machine → List (ℕ × Cell ℕ) → State
+state_with m cells = state_over m (record { owner = m.seat.owner; cells = cells; others = []; counts = m.seat.counts; limits = m.seat.limits; base = m.seat.base; given = 0 })
+
 -- what is still to come from a machine over these cells, with these deliveries
 abbrev pub trace_from : List nodes.Node → (ℕ → ℕ) → Machine → List (ℕ × Cell ℕ) → List Arrival → Trace ℕ
-trace_from script supply m cells ds = to_come script supply (state_over m (record { owner = m.seat.owner; cells = cells; others = []; counts = m.seat.counts; limits = m.seat.limits; base = m.seat.base; given = 0 })) ds
+trace_from script supply m cells ds = to_come script supply (state_with m cells) ds
 
 abbrev pub coming_from : List nodes.Node → (ℕ → ℕ) → Machine → List (ℕ × Cell ℕ) → List Arrival → List Entry
 coming_from script supply m cells ds = entries (trace_from script supply m cells ds)
@@ -76,13 +82,27 @@ Promises script m cells coming = (supply : ℕ → ℕ) (ds : List Arrival) → 
 abbrev pub Counts : List nodes.Node → Machine → List (ℕ × Cell ℕ) → (List Arrival → ℕ) → Type 0
 Counts script m cells count = (supply : ℕ → ℕ) (ds : List Arrival) → AreDistinct supply → Follows supply 0 cells → cells_at_end (trace_from script supply m cells ds) ≡ count ds
 
--- A machine has its cells in the pool, waits or has stopped, and makes turns.
+-- all that a machine holds fits its cells in the pool: its state over its heap is closed
+abbrev pub FitsIn : List nodes.Node → Machine → PoolView → Type 0
+FitsIn script m pool = AllFit script m.kind (values_of pool.maps m.seat.owner) m.frames.items m.control
+
+-- A machine has its cells in the pool and is closed, waits or has stopped, and makes turns.
 pub record Sits (script : List nodes.Node) (m : Machine) (pool : PoolView) : Type 0 where
   pub owned : IsOwned pool.maps m.seat.owner m.seat.counts m.seat.base
   pub below : m.seat.owner < pool.given
   pub distinct : IsDistinct (keys (values_of pool.maps m.seat.owner))
+  pub closed : FitsIn script m pool
   pub waits : is_running m.control ≡ false
   pub turns : (supply : ℕ → ℕ) (ds : List Arrival) → Follows supply 0 (values_of pool.maps m.seat.owner) → Turns false (coming_from script supply m (values_of pool.maps m.seat.owner) ds)
+
+-- A machine has its cells in the pool, is closed and makes turns, of which it may be inside one.
+pub record Turning (script : List nodes.Node) (m : Machine) (pool : PoolView) : Type 0 where
+  pub owned : IsOwned pool.maps m.seat.owner m.seat.counts m.seat.base
+  pub below : m.seat.owner < pool.given
+  pub distinct : IsDistinct (keys (values_of pool.maps m.seat.owner))
+  pub closed : FitsIn script m pool
+  pub inside : Bool
+  pub turns : (supply : ℕ → ℕ) (ds : List Arrival) → Follows supply 0 (values_of pool.maps m.seat.owner) → Turns inside (coming_from script supply m (values_of pool.maps m.seat.owner) ds)
 
 -- ---- what callers speak of
 
@@ -90,9 +110,17 @@ pub record Sits (script : List nodes.Node) (m : Machine) (pool : PoolView) : Typ
 unfoldable pub owner_of : World → Option ℕ
 owner_of world = option_map (λ m. m.seat.owner) world.machine
 
--- The world stands in this pool, between two deliveries.
+-- The world stands in this pool, between two deliveries. Its state is closed: each location that it holds stands.
 unfoldable pub IsIn : World → PoolView → Type 0
 IsIn world pool = IsSomeAnd world.machine (λ m. Sits (nodes_of world.script) m pool)
+
+-- The world stands in this pool, closed, and may be running: what is still to come may be the rest of a turn.
+unfoldable pub IsRunning : World → PoolView → Type 0
+IsRunning world pool = IsSomeAnd world.machine (λ m. Turning (nodes_of world.script) m pool)
+
+-- At most so many turns a world makes before it waits for a delivery or has stopped.
+unfoldable pub turns_left : World → ℕ
+turns_left world = option_map_or (λ m. work (state_with m [])) world.machine 0
 
 -- The entries that are still to come from a world in its pool are these, for each list of further deliveries.
 unfoldable pub IsComing : World → PoolView → (List Arrival → List Entry) → Type 0
@@ -133,6 +161,42 @@ pub record IsSpared (w : World) (old new : PoolView) : Type 0 where
 -- all worlds of a pool but one stay as they were
 abbrev pub Spares : World → PoolView → PoolView → Type 0
 Spares world old new = (w : World) → owner_of w ≢ owner_of world → IsIn w old → IsSpared w old new
+
+-- From a world in its pool these deliveries are taken and these entries made: what is still to come is what stood behind
+-- them, and the other worlds stay as they were. The world may be running.
+pub record Passes (taken : List Arrival) (made : List Entry) (old : World) (before : PoolView) (new : World) (after : PoolView) : Type 0 where
+  pub runs : IsRunning new after
+  pub law : (coming : List Arrival → List Entry) (ds : List Arrival) → IsComing old before coming → coming (taken ++ ds) ≡ made ++ drop (length made) (coming (taken ++ ds))
+  pub comes : (coming : List Arrival → List Entry) → IsComing old before coming → IsComing new after (λ ds. drop (length made) (coming (taken ++ ds)))
+  pub fills : (cells : List Arrival → ℕ) → IsFilling old before cells → IsFilling new after (λ ds. cells (taken ++ ds))
+  pub owner : owner_of new ≡ owner_of old
+  pub spares : Spares old before after
+  pub given : after.given ≡ before.given
+  pub count : length after.maps ≡ length before.maps
+
+-- behind a stop nothing is to come
+abbrev pub IsLastStop : log.Product → World → PoolView → Type 0
+IsLastStop made world pool = (coming : List Arrival → List Entry) (stop : _) (ds : List Arrival) → made ≡ products.Stopped stop → IsComing world pool coming → coming ds ≡ []
+
+-- A world rests in its pool or has stopped: without a delivery nothing is to come, and no cell is made.
+pub record Rests (world : World) (pool : PoolView) : Type 0 where
+  pub stands : IsIn world pool
+  pub quiet : (coming : List Arrival → List Entry) → IsComing world pool coming → coming [] ≡ []
+  pub size : (cells : List Arrival → ℕ) → IsFilling world pool cells → size_in world pool ≡ cells []
+
+-- the entry of the next product, where there is one
+abbrev pub next_entry : Option log.Product → List Entry
+next_entry (Some made) = entry.Product made ∷ []
+next_entry None = []
+
+-- where there is no next product the world rests, and a stop is the last
+abbrev pub StandsBehind : Option log.Product → World → PoolView → Type 0
+StandsBehind (Some made) world pool = IsLastStop made world pool
+StandsBehind None world pool = Rests world pool
+
+-- These deliveries are taken and these entries made, and then the next product, if there is one.
+abbrev pub GoesOn : List Arrival → List Entry → World → PoolView → Option log.Product → World → PoolView → Type 0
+GoesOn taken first old before made new after = Passes taken (first ++ next_entry made) old before new after × StandsBehind made new after
 
 -- what is still to come behind a delivery and these products
 abbrev pub behind : (List Arrival → List Entry) → Arrival → List log.Product → List Arrival → List Entry

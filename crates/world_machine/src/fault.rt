@@ -1,19 +1,15 @@
-//! Why a delivery wasn't taken to its end.
+//! Why a delivery isn't taken to its end.
+ghost use Rattle.std.specs.Prelude.{◌≡◌};
+
 use js_semantics::StepFault;
+use std::alloc::AllocError;
 
-/// Why a world didn't come to a yield: memory ran out, or a location was met that stands nowhere in its heap. No script
-/// comes to such a location, but that isn't proved.
-#[derive(Debug, Drop, Clone, Copy, PartialEq, Eq)]
-pub enum ResumeFault {
-    Memory,
-    Dangling,
-}
-
-impl From<StepFault> for ResumeFault {
-    fn from(fault: StepFault) -> ResumeFault {
-        match fault {
-            StepFault::Memory => ResumeFault::Memory,
-            StepFault::Dangling => ResumeFault::Dangling,
-        }
+// Want of memory. A closed state never comes to a location that stands nowhere.
+pub(crate) fn out_of_memory(fault: StepFault) -> AllocError
+    requires { fault ≡ StepFault.Memory }
+{
+    match fault {
+        StepFault::Memory => AllocError,
+        StepFault::Dangling => unreachable!(),
     }
 }

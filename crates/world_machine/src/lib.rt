@@ -6,7 +6,6 @@ mod machine;
 mod world;
 mod yielding;
 
-pub use fault::ResumeFault;
 pub use world::World;
 pub use yielding::Yield;
 

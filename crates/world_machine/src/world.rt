@@ -1,5 +1,5 @@
 //! A world over the pool of all worlds.
-ghost use Rattle.std.specs.Prelude.{◌≡◌, ◌^◌, ◌-◌, ◌<◌, ◌≤◌, ◌++◌, ◌∷◌, ℕ, List, length, true, IfOk};
+ghost use Rattle.std.specs.Prelude.{◌≡◌, ◌^◌, ◌-◌, ◌<◌, ◌≤◌, ◌++◌, ◌∷◌, [], ℕ, List, length, true, IfOk, IsSome};
 ghost use Rattle.world_heap.specs.Bounded.{bounds_of};
 ghost use Rattle.world_heap.specs.Views.{PoolView};
 ghost use Rattle.world_log.specs.declared.entry.Entry as log_entry;
@@ -9,14 +9,14 @@ ghost use Rattle.js_names.specs.Patterns.{nodes_of};
 ghost use Rattle.js_semantics.specs.Alone.{alone};
 ghost use Rattle.js_semantics.specs.Run.{Arrival};
 ghost use Rattle.alone_laws.specs.Sizes.{alone_cells};
-ghost use Rattle.world_machine.specs.World.{IsBegun, IsComing, IsEnded, IsIn, IsPut, IsTaken, Resumes, Takes, is_awaited};
+ghost use Rattle.world_machine.specs.World.{GoesOn, IsBegun, IsComing, IsEnded, IsIn, IsPut, IsRunning, IsTaken, Resumes, Takes, is_awaited, turns_left};
 
-use crate::fault::ResumeFault;
+use crate::fault::out_of_memory;
 use crate::machine::{Machine, part};
 use crate::yielding::{Yield, last_yield};
 use js_machine::{State, discard};
 use js_realm::first_state;
-use js_step::resume;
+use js_step::{advance, begin, resume};
 use js_tree::Tree;
 use std::alloc::{AllocError, Global};
 use world_heap::{Limits, Pool};
@@ -94,14 +94,14 @@ impl World {
     /// The world stands in the pool, and the delivery is awaited.
     ///
     /// # Errors
-    /// `Memory` where there is none, `Dangling` where a location was met that stands nowhere. The pool is then gone.
+    /// `AllocError` where memory runs out. The pool is then gone.
     pub fn resume(
         &mut self,
         pool: Pool,
         fresh: bool,
         delivery: Delivery,
         out: &mut Vec<Product>,
-    ) -> Result<(Yield, Pool), ResumeFault>
+    ) -> Result<(Yield, Pool), AllocError>
         requires stands { IsIn self.old pool }
         requires awaited { is_awaited self.old delivery ≡ true }
         ensures { IfOk result (λ r. (made : List made_by.Product) × (out.new.items ≡ out.old.items ++ made)
@@ -110,15 +110,63 @@ impl World {
         let mut state = self.take_state(pool);
         match resume(&mut state, &self.script, fresh, delivery, out) {
             Ok(()) => {}
-            Err(fault) => return Err(ResumeFault::from(fault)),
+            Err(fault) => return Err(out_of_memory(fault)),
         }
         let pool = self.put_state(state);
         Ok((last_yield(out.as_slice()), pool))
     }
 
+    /// Takes a delivery, `fresh` where it is the first to the world in its task and fills its steps, and runs up to the
+    /// first product, or up to where the world rests (ECMA-262, 9.5 and 16.1.6). `advance` then makes the others. The
+    /// cost is that of the steps. Moving the pool takes constant time.
+    ///
+    /// The world stands in the pool, and the delivery is awaited.
+    ///
+    /// # Errors
+    /// `AllocError` where memory runs out. The pool is then gone.
+    pub fn begin(
+        &mut self,
+        pool: Pool,
+        fresh: bool,
+        delivery: Delivery,
+    ) -> Result<(Option<Product>, Pool), AllocError>
+        requires stands { IsIn self.old pool }
+        requires awaited { is_awaited self.old delivery ≡ true }
+        ensures { IfOk result (λ r. GoesOn (record { fresh = fresh; what = delivery } ∷ []) (entry.Delivery fresh delivery ∷ []) self.old pool r.0 self.new r.1) }
+    {
+        let mut state = self.take_state(pool);
+        let first = match begin(&mut state, &self.script, fresh, delivery) {
+            Ok(first) => first,
+            Err(fault) => return Err(out_of_memory(fault)),
+        };
+        let pool = self.put_state(state);
+        Ok((first, pool))
+    }
+
+    /// Runs up to the next product, or up to where the world rests or has stopped. Where a product was made, fewer turns
+    /// are left. The cost is that of the steps. Moving the pool takes constant time.
+    ///
+    /// The world stands in the pool.
+    ///
+    /// # Errors
+    /// `AllocError` where memory runs out. The pool is then gone.
+    pub fn advance(&mut self, pool: Pool) -> Result<(Option<Product>, Pool), AllocError>
+        requires { IsRunning self.old pool }
+        ensures goes { IfOk result (λ r. GoesOn [] [] self.old pool r.0 self.new r.1) }
+        ensures falls { IfOk result (λ r. IsSome r.0 → turns_left self.new < turns_left self.old) }
+    {
+        let mut state = self.take_state(pool);
+        let next = match advance(&mut state, &self.script) {
+            Ok(next) => next,
+            Err(fault) => return Err(out_of_memory(fault)),
+        };
+        let pool = self.put_state(state);
+        Ok((next, pool))
+    }
+
     // The state of the world over its pool, which leaves the world empty.
     fn take_state(&mut self, pool: Pool) -> State
-        requires { IsIn self.old pool }
+        requires { IsRunning self.old pool }
         ensures { IsTaken self.old pool result self.new }
     {
         match self.machine.take() {

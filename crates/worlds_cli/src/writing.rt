@@ -17,8 +17,8 @@ use std::alloc::{AllocError, Global};
 use v8_wire::WireKind;
 use wl_causes::{Sink, write_whole};
 
-/// Plays an application, and writes its printed log, the lines of each world's task as soon as it has yielded. What is
-/// kept of the application is let go.
+/// Plays an application, and writes its printed log, each line as soon as its item is made. What is kept of the
+/// application is let go.
 #[tactic(auto, using(crate::proofs::Playing::all_played, crate::proofs::Playing::front_played))]
 pub fn write_log<K: Sink>(alloc: Global, app: &App, sink: &mut K) -> Result<(), Status>
     ensures ok { OnOk result (K.taken sink.new ≡ with_more (printed_log (log_of (application_spelled (texts_of app.now)))) (K.taken sink.old)) }
@@ -29,7 +29,6 @@ pub fn write_log<K: Sink>(alloc: Global, app: &App, sink: &mut K) -> Result<(), 
     match play(alloc, app, sink) {
         Ok(_) => {}
         Err(PlayFault::Memory) => return Err(Status::Memory),
-        Err(PlayFault::Dangling) => return Err(Status::Memory),
         Err(PlayFault::Sink) => return Err(Status::SinkFault),
     }
     Ok(())

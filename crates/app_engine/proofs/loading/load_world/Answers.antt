@@ -1,16 +1,18 @@
-use Rattle.std.proofs.Common.{◌∙◌, List, ◌++◌, ap, sym}
-use Rattle.std.specs.List.{list_any}
-use Rattle.world_log.specs.declared.entry.Product.{Product}
-use Rattle.app_engine.specs.Log.{is_stop}
-use Rattle.app_engine.specs.Machines.{made_of}
-use Rattle.app_engine.proofs.Joining.{joins, stopped_by}
+use Rattle.app_engine.proofs.Joining.{joins}
 use Rattle.app_engine.proofs.loading.load_world.Goals as goal
 
+pub returns-in-Err-run_task-clause-front : goal.returns-in-Err-run_task-clause-front
+returns-in-Err-run_task-clause-front g c = c.run_task.ensures.front _ c.in-Ok.ensures.comes
+
 pub returns-clause-joins : goal.returns-clause-joins
-returns-clause-joins c = joins _ _ _ _ _ _ _ _ _ c.in-Ok.ensures c.in-Ok-resume.ensures.2
+returns-clause-joins g c =
+    let ran = c.in-Ok-run_task.ensures.ran in joins _ _ _ _ _ _ _ _ c.in-Ok.ensures ran.1 ran.2
+
+pub returns-clause-ok : goal.returns-clause-ok
+returns-clause-ok g c = c.in-Ok-run_task.ensures.ok _ c.in-Ok.ensures.comes
 
 pub returns-clause-stopped : goal.returns-clause-stopped
-returns-clause-stopped c =
-    let made = c.in-Ok-resume.ensures in
-    c.is_stop_of.ensures ∙ (stopped_by c.in-Ok-resume.rested.0 made.0 made.2.yields
-    ∙ ap (λ (xs : List Product). list_any is_stop (made_of xs)) (sym (made.1 ∙ ap (λ (xs : List Product). xs ++ made.0) c.new-made.ensures.items)))
+returns-clause-stopped g c = c.in-Ok-run_task.ensures.stopped _ c.in-Ok.ensures.comes
+
+pub returns-clause-front : goal.returns-clause-front
+returns-clause-front g c = c.run_task.ensures.front _ c.in-Ok.ensures.comes

@@ -2,6 +2,3 @@ use Rattle.js_step_access.proofs.removal.settle.Goals as goal
 
 pub returns-then-gone-clause-closed : goal.returns-then-gone-clause-closed
 returns-then-gone-clause-closed c nodes closed = c.give.ensures.closed nodes closed tt
-
-pub returns-else-gone-clause-closed : goal.returns-else-gone-clause-closed
-returns-else-gone-clause-closed c nodes closed = c.throw.ensures.closed nodes closed

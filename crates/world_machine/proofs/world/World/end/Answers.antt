@@ -1,5 +1,9 @@
+use Rattle.world_machine.proofs.Pools.{runs_in}
 use Rattle.world_machine.proofs.Resuming.{ended}
 use Rattle.world_machine.proofs.world.World.end.Goals as goal
+
+pub take_state-state-requires : goal.take_state-state-requires
+take_state-state-requires c = runs_in c.args.self c.args.pool c.requires
 
 pub returns : goal.returns
 returns c =
