@@ -19,6 +19,11 @@ use world_log::{Product, Stop};
 /// Lets a value go. A generic function keeps the cases of its drop out of its callers' proofs.
 pub fn discard<T: Drop>(_value: T) {}
 
+// Lets a value go for which there was no memory. It stands apart from its callers' code, which goes on without it.
+#[cold]
+#[inline(never)]
+fn lose<T: Drop>(_value: T) {}
+
 /// Ends a row without a value, as that of a statement (ECMA-262, 14.5.1).
 #[inline(always)]
 pub fn done(state: &mut State) -> Result<Next, StepFault>
@@ -50,15 +55,23 @@ impl State {
         Ok(Next::Go)
     }
 
-    /// What follows a reading is done with the value.
+    /// What follows a reading is done with the value: at once, where that only gives a value, and else by a frame.
     #[inline(always)]
     pub fn hand(&mut self, frame: AfterFrame, value: Value) -> Result<Next, StepFault>
         ensures does { (nodes : List kind.Node) → IfOk result (λ next. Does nodes 6 (after_rest nodes frame value) self.old self.new next) }
         ensures closed { (nodes : List kind.Node) → IsClosed nodes self.old → AfterFits nodes self.old.heap.cells frame → ValueFits self.old.heap.cells value → Lasts nodes self.old self.new result }
     {
-        self.frames.push(Frame::After(frame))?;
-        self.control = Control::Give(Outcome::Normal(value));
-        Ok(Next::Go)
+        match frame {
+            AfterFrame::Give => self.give(Outcome::Normal(value)),
+            AfterFrame::Result { value: kept } => {
+                discard(value);
+                self.give(Outcome::Normal(kept))
+            }
+            frame => {
+                self.push(Some(Frame::After(frame)))?;
+                self.give(Outcome::Normal(value))
+            }
+        }
     }
 
     /// Puts a frame on the stack, where there is one. For want of memory the frame is lost.
@@ -69,10 +82,16 @@ impl State {
         ensures closed { (nodes : List kind.Node) → IsClosed nodes self.old → OptionOver (FrameFits nodes self.old.heap.cells) frame → Lasts nodes self.old self.new result }
     {
         match frame {
-            Some(frame) => {
-                self.frames.push(frame)?;
-                Ok(())
-            }
+            Some(frame) => match self.frames.reserve(1) {
+                Ok(()) => {
+                    self.frames.push_reserved(frame);
+                    Ok(())
+                }
+                Err(_) => {
+                    lose(frame);
+                    Err(StepFault::Memory)
+                }
+            },
             None => Ok(()),
         }
     }

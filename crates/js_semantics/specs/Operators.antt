@@ -22,7 +22,8 @@ pub data Computed (L : Type 0) : Type 0 where
 abbrev pub is_safe : ℤ → Bool
 is_safe z = int_le (negsuc 9_007_199_254_740_990) z && int_le z (pos 9_007_199_254_740_991)
 
--- The number of a literal. The text of a script spells no number that it may not have; a node with one counts as 0.
+-- The number of a literal (ECMA-262, 12.9.3: NumericValue). No text spells one that a value may not have: the tokens refuse
+-- it. A node with such a number, made without a text, counts as 0.
 abbrev pub literal_number : ℤ → ℤ
 literal_number z = if is_safe z then z else pos 0
 
