@@ -55,6 +55,17 @@ impl State {
         Ok(Next::Go)
     }
 
+    // What follows a reading is done with the value, by a frame.
+    #[inline(always)]
+    fn follow(&mut self, frame: AfterFrame, value: Value) -> Result<Next, StepFault>
+        ensures does { (nodes : List kind.Node) → IfOk result (λ next. Does nodes 6 (after_rest nodes frame value) self.old self.new next) }
+        ensures closed { (nodes : List kind.Node) → IsClosed nodes self.old → AfterFits nodes self.old.heap.cells frame → ValueFits self.old.heap.cells value → Lasts nodes self.old self.new result }
+    {
+        self.push(Some(Frame::After(frame)))?;
+        self.control = Control::Give(Outcome::Normal(value));
+        Ok(Next::Go)
+    }
+
     /// What follows a reading is done with the value: at once, where that only gives a value, and else by a frame.
     #[inline(always)]
     pub fn hand(&mut self, frame: AfterFrame, value: Value) -> Result<Next, StepFault>
@@ -67,10 +78,7 @@ impl State {
                 discard(value);
                 self.give(Outcome::Normal(kept))
             }
-            frame => {
-                self.push(Some(Frame::After(frame)))?;
-                self.give(Outcome::Normal(value))
-            }
+            frame => self.follow(frame, value),
         }
     }
 

@@ -2,7 +2,7 @@
 use crate::row::Row;
 use world_kind::WorldKind;
 
-pub(crate) const FAULTS: [Row; 25] = [
+pub(crate) const FAULTS: [Row; 27] = [
     Row {
         kind: WorldKind::Main,
         text: "console.info(1); console.warn(\"w\", {}); console.error(new Error(\"e\")); console.log();",
@@ -113,6 +113,20 @@ pub(crate) const FAULTS: [Row; 25] = [
         text: "const a = []; a[1] = 0;",
         limits: [10, 3, 5, 20],
         log: "uncaught \"RangeError: no holes\"\nrest 0",
+        told: [Some(0), Some(0), Some(0), Some(0)],
+    },
+    Row {
+        kind: WorldKind::Main,
+        text: "let s = \"ab\"; while (true) { s += s; }",
+        limits: [125, 2, 4, 2097168],
+        log: "uncaught \"RangeError: too long\"\nrest 0",
+        told: [Some(0), Some(0), Some(0), Some(0)],
+    },
+    Row {
+        kind: WorldKind::Main,
+        text: "let s = \"ab\"; while (true) { s = `${s}${s}`; }",
+        limits: [165, 2, 4, 2097168],
+        log: "uncaught \"RangeError: too long\"\nrest 0",
         told: [Some(0), Some(0), Some(0), Some(0)],
     },
     Row {
