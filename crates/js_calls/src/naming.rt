@@ -69,7 +69,7 @@ pub fn global_holder(state: &State, name: &Units) -> Result<Option<Value>, StepF
 }
 
 /// What a name stands for in an environment: its innermost binding, else the global object's property. The cost is linear
-/// in the environments around it and their bindings, and in the value where it is a string.
+/// in the environments around it and their bindings; a string is shared, not copied.
 ///
 /// # Errors
 /// `Memory` where there is none; `Dangling` where the global object stands nowhere.

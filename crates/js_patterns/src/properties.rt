@@ -84,7 +84,7 @@ fn read(
 }
 
 /// The properties of an object pattern from a place on. The cost is that of `get` for the first of them; a value that is a
-/// string is copied for each.
+/// string is shared, not copied.
 pub fn bind_properties(
     state: &mut State,
     tree: &Tree,

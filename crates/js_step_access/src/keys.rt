@@ -48,7 +48,7 @@ pub fn key_units<'a>(tree: &'a Tree, key: &'a Key) -> Option<&'a Units>
     }
 }
 
-/// The same key again. A text is copied, in time linear in its units.
+/// The same key again. A text is shared, not copied, so the cost is constant.
 ///
 /// # Errors
 /// `Memory` where there is none.
