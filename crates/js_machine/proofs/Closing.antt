@@ -13,7 +13,7 @@ use Rattle.world_heap.specs.BuiltIns.{place_of}
 use Rattle.world_heap.specs.Maps.{keys, find, find-push}
 use Rattle.world_heap.specs.Over.{ListOver, OptionOver, ValueOver, list_more, value_more}
 use Rattle.world_heap.specs.Heaps.{is_env, units_of, IsCell, IsNoEnv, IsWell, Fits}
-use Rattle.world_heap.proofs.Wells.{found_stands, list_push}
+use Rattle.world_heap.proofs.Wells.{found_stands}
 use Rattle.js_semantics.specs.declared.scope.Scope.{Scope}
 use Rattle.js_semantics.specs.declared.outcome.Outcome.{Outcome}
 use Rattle.js_semantics.specs.declared.outcome.Outcome.TheVariants.{Normal, Return, Break, Continue, Thrown}
@@ -55,7 +55,7 @@ use Rattle.js_machine.specs.declared.frame.Frame.TheVariants as frames
 use Rattle.js_machine.specs.declared.state.Control.{Control}
 use Rattle.js_machine.specs.declared.state.Control.TheVariants as controls
 use Rattle.js_machine.specs.declared.state.State.{State}
-use Rattle.js_machine.specs.Closed.{FitOn, ScopeOver, OutcomeOver, PlaceOver, TargetOver, OperandOver, PropertyOver, CallOver, LiteralOver, StatementOver, PatternOver, ValueFrameOver, AfterOver, FrameOver, ControlOver, IsNamed, ValueFits, ScopeFits, PlaceFits, AfterFits, FrameFits, ControlFits, HasRealm, IsClosed, GoesOn, Lasts}
+use Rattle.js_machine.specs.Closed.{ScopeOver, OutcomeOver, PlaceOver, TargetOver, OperandOver, PropertyOver, CallOver, LiteralOver, StatementOver, PatternOver, ValueFrameOver, AfterOver, FrameOver, ControlOver, IsNamed, ValueFits, ScopeFits, PlaceFits, AfterFits, FrameFits, ControlFits, HasRealm, IsClosed, GoesOn, Lasts}
 use Rattle.js_machine.specs.Does.{Allocates, CountsUnits, IsFresh, StepsDown, world_of}
 use Rattle.js_machine.proofs.Testing.{keys_at}
 
@@ -229,13 +229,6 @@ goes_on nodes old mid new f g = record { closed = g.closed; grows = grows_on old
 pub lasts_on : {A : Type 0} (nodes : List Node) (old mid new : State) (r : Result A StepFault) → GoesOn nodes old mid → Lasts nodes mid new r → Lasts nodes old new r
 lasts_on nodes old mid new (Ok x) f g = goes_on nodes old mid new f g
 lasts_on nodes old mid new (Err fault) f is = is
-
--- what follows a reading is done with the value
-pub closed_handed : (nodes : List Node) (old : State) (rows : List (Frame ℕ)) (frame : AfterFrame ℕ) (value : Value ℕ) → IsClosed nodes old → AfterFits nodes old.heap.cells frame → ValueFits old.heap.cells value → rows ≡ old.frames.items ++ frames.After frame ∷ [] → FitOn nodes old.kind old.heap.cells old.heap.cells rows (controls.Give (Normal value))
-closed_handed nodes old rows frame value closed fit given pushed = record {
-  closed = record { well = closed.well; realm = closed.realm; frames = rw pushed (list_push (FrameFits nodes old.heap.cells) old.frames.items (frames.After frame) closed.frames fit); control = given };
-  grows = grows_not old.heap.cells;
-}
 
 -- a step is taken
 pub closed_step : (nodes : List Node) (old new : State) (taken : Bool) → IsClosed nodes old → StepsDown old new taken → GoesOn nodes old new
