@@ -1,19 +1,14 @@
 -- What a closed state goes on to where its topmost frame is taken off, and where what is next is taken out.
-use Rattle.std.proofs.Common.{◌≡◌, ℕ, Bool, true, false, List, [], ◌∷◌, ◌++◌, if◌then◌else◌, refl, ℤ, pos}
+use Rattle.std.proofs.Common.{◌≡◌, ℕ, List, [], ◌∷◌, ◌++◌}
 use Rattle.js_tree.specs.declared.node.Node.{Node}
-use Rattle.world_heap.specs.declared.value.Value.{Value}
-use Rattle.world_heap.specs.declared.value.Value.TheVariants.{Num}
-use Rattle.world_heap.specs.declared.cell.Cell.{Cell}
-use Rattle.world_heap.specs.Over.{IsSafe, ListOver}
+use Rattle.world_heap.specs.Over.{ListOver}
 use Rattle.js_names.proofs.Growing.{grows_not}
-use Rattle.js_semantics.specs.Operators.{is_safe, literal_number}
 use Rattle.js_machine.specs.declared.frame.Frame.{Frame}
 use Rattle.js_machine.specs.declared.state.Control.{Control}
 use Rattle.js_machine.specs.declared.state.Control.TheVariants as controls
 use Rattle.js_machine.specs.declared.state.State.{State}
-use Rattle.js_machine.specs.Closed.{ControlFits, FrameFits, GoesOn, IsClosed, ValueFits}
+use Rattle.js_machine.specs.Closed.{ControlFits, FrameFits, GoesOn, IsClosed}
 use Rattle.js_machine.proofs.Closing.{closed_control}
-use Rattle.js_step_expr.proofs.Numbers.{safe}
 
 -- a list without its last member
 init_over : {A : Type 0} (P : A → Type 0) (xs : List A) (x : A) → ListOver P (xs ++ x ∷ []) → ListOver P xs
@@ -47,14 +42,3 @@ taken_fits nodes s control closed is = rw is at closed.control
 -- no turn is made yet
 pub goes_nowhere : (nodes : List Node) (s : State) → IsClosed nodes s → GoesOn nodes s s
 goes_nowhere nodes s closed = record { closed = closed; grows = grows_not s.heap.cells }
-
--- the number of a literal is one of a script
-literal_safe : (z : ℤ) → IsSafe (literal_number z)
-literal_safe z = by (is_safe z) refl
-  where
-    by : (b : Bool) → is_safe z ≡ b → IsSafe (if b then z else pos 0)
-    by true e = safe z e
-    by false e = safe (pos 0) refl
-
-pub literal_fits : (cells : List (ℕ × Cell ℕ)) (v : Value ℕ) (z : ℤ) → v ≡ Num (literal_number z) → ValueFits cells v
-literal_fits cells v z is = rw is (literal_safe z)

@@ -43,7 +43,7 @@ pub(crate) fn after_frame(
             value: operand,
             place,
             scope,
-        } => after_assign_by(state, operator, operand, place, scope, value),
+        } => after_assign_by(state, tree, operator, operand, place, scope, value),
         AfterFrame::Callee { node, base, scope } => {
             after_callee(state, tree, node, base, scope, value)
         }

@@ -8,28 +8,14 @@ ghost use Rattle.js_machine.specs.Does.{Does};
 ghost use Rattle.js_step.specs.Kinds.{is_operand};
 
 use js_machine::{Next, State};
+use js_primary::number_value;
 use js_semantics::{Scope, StepFault};
-use js_step_access::row_name;
+use js_step_access::{row_dot, row_index, row_name};
 use js_step_call::{row_call, row_new};
-use js_step_expr::{row_dot, row_index, row_literal, row_template, row_text, row_this};
+use js_step_expr::{row_literal, row_template, row_text, row_this};
 use js_step_object::{row_array, row_arrow, row_fun, row_object};
 use js_tree::{Node, NodeId, Tree};
 use world_heap::Value;
-
-/// The greatest whole number that a value may be.
-const GREATEST: i64 = 9_007_199_254_740_991;
-
-// The value of a number's literal: one that no script may have, which no text spells, counts as 0.
-fn number_value(number: &i64) -> Value
-    ensures { result ≡ Value.Num (literal_number number.now) }
-{
-    let value = *number;
-    if -GREATEST <= value && value <= GREATEST {
-        Value::Num(value)
-    } else {
-        Value::Num(0)
-    }
-}
 
 /// The row of a literal, a name, a function, a property or a call (ECMA-262, 13.2, 13.3 and 15).
 #[tactic(auto, unfolding(js_semantics::specs::Rows::row_of))]
@@ -57,8 +43,8 @@ pub(crate) fn row_operand(
         Node::ObjectLit(_) => row_object(state, tree, id, scope),
         Node::Fun { name, .. } => row_fun(state, id, name, scope),
         Node::Arrow(_) => row_arrow(state, id, scope),
-        Node::Dot { object, .. } => row_dot(state, id, *object, scope),
-        Node::Index { object, key } => row_index(state, *object, *key, scope),
+        Node::Dot { object, .. } => row_dot(state, tree, id, *object, scope),
+        Node::Index { object, key } => row_index(state, tree, *object, *key, scope),
         Node::Call { callee, .. } => row_call(state, tree, id, *callee, scope),
         Node::New { callee, .. } => row_new(state, id, *callee, scope),
         _ => unreachable!(),

@@ -8,9 +8,9 @@ ghost use Rattle.js_step.specs.Kinds.{is_operator};
 
 use js_machine::{Next, State};
 use js_semantics::{Scope, StepFault};
-use js_step_access::{row_assign_with, row_typeof, row_update};
+use js_step_access::{row_assign_with, row_binary, row_typeof, row_update};
 use js_step_expr::{
-    row_and, row_assign, row_binary, row_cond, row_delete, row_nullish, row_or, row_seq, row_unary,
+    row_and, row_assign, row_cond, row_delete, row_nullish, row_or, row_seq, row_unary,
 };
 use js_tree::{Node, NodeId, Tree};
 
@@ -48,7 +48,7 @@ pub(crate) fn row_operator(
             operator,
             left,
             right,
-        } => row_binary(state, *operator, *left, *right, scope),
+        } => row_binary(state, tree, *operator, *left, *right, scope),
         Node::Unary { operator, operand } => row_unary(state, *operator, *operand, scope),
         Node::Typeof(operand) => row_typeof(state, tree, *operand, scope),
         Node::Delete(operand) => row_delete(state, tree, *operand, scope),

@@ -2,3 +2,4 @@ mod Fitting
 mod Joining
 mod Inheriting
 mod Removals
+mod Bound

@@ -1,18 +1,19 @@
 //! What follows the reading of a name or property (ECMA-262, 13.4 and 13.15).
-ghost use Rattle.std.specs.Prelude.{◌≡◌, IfOk, List, MatchResult, if◌then◌else◌};
+ghost use Rattle.std.specs.Prelude.{◌≡◌, ◌≢◌, IfOk, List, MatchResult, if◌then◌else◌};
 ghost use Rattle.js_tree.specs.declared.node.Node as kind;
 ghost use Rattle.js_machine.specs.Closed.{IsClosed, Lasts, PlaceFits, ScopeFits, ValueFits};
 ghost use Rattle.js_machine.specs.Does.{Does};
 ghost use Rattle.js_machine.specs.Frames.{after_rest, write_place};
 ghost use Rattle.js_names.specs.Patterns.{nodes_of};
 ghost use Rattle.js_semantics.specs.Prog.{give};
-ghost use Rattle.js_semantics.specs.Expressions.{updated};
+ghost use Rattle.js_semantics.specs.Expressions.{apply, updated};
 
-use crate::writing::write_place;
+use crate::writing::{assign_place, write_place};
 use js_machine::{AfterFrame, Frame, Next, OperandFrame, Place, State, ValueFrame, discard};
 use js_operators::moved;
+use js_primary::{Taken, take_value};
 use js_semantics::{Fault, Scope, StepFault};
-use js_step_expr::settle;
+use js_step_expr::{apply, settle};
 use js_tree::{BinaryOperator, NodeId, Tree, UpdateOperator};
 use std::alloc::Global;
 use world_heap::Value;
@@ -89,8 +90,8 @@ pub fn after_update(
     }
 }
 
-/// The old value of the target of an assignment by an operator: enters the other operand.
-pub fn after_assign_by(
+// Enters the other operand of an assignment by an operator.
+fn enter_assigned(
     state: &mut State,
     operator: BinaryOperator,
     value: NodeId,
@@ -107,4 +108,75 @@ pub fn after_assign_by(
         place,
     };
     state.enter(Frame::OnValue(ValueFrame::Operand(frame)), value, scope)
+}
+
+// Writes what an operator that reads no property comes to on both values.
+#[inline(always)]
+fn write_applied(
+    state: &mut State,
+    tree: &Tree,
+    operator: BinaryOperator,
+    place: Place,
+    old: &Value,
+    value: &Value,
+) -> Result<Next, StepFault>
+    requires { operator ≢ BinaryOperator.InstanceOf }
+    ensures does { IfOk result (λ next. Does (nodes_of tree.now) 4 (apply operator old.now value.now (λ new. write_place (nodes_of tree.now) place new (give new))) state.old state.new next) }
+    ensures closed { IsClosed (nodes_of tree.now) state.old → PlaceFits (nodes_of tree.now) state.old.heap.cells place → ValueFits state.old.heap.cells old.now → ValueFits state.old.heap.cells value.now → Lasts (nodes_of tree.now) state.old state.new result }
+{
+    match apply(state, operator, old, value)? {
+        Ok(changed) => assign_place(state, tree, place, changed),
+        Err(next) => {
+            discard(place);
+            Ok(next)
+        }
+    }
+}
+
+// The other operand of an assignment by an operator that reads no property: it is evaluated in place, or entered.
+fn assign_by(
+    state: &mut State,
+    tree: &Tree,
+    operator: BinaryOperator,
+    value: NodeId,
+    place: Place,
+    scope: Scope,
+    old: Value,
+) -> Result<Next, StepFault>
+    requires { operator ≢ BinaryOperator.InstanceOf }
+    ensures does { IfOk result (λ next. Does (nodes_of tree.now) 4 (after_rest (nodes_of tree.now) (AfterFrame.AssignBy operator value place scope) old) state.old state.new next) }
+    ensures closed { IsClosed (nodes_of tree.now) state.old → PlaceFits (nodes_of tree.now) state.old.heap.cells place → ScopeFits (nodes_of tree.now) state.old.heap.cells scope → ValueFits state.old.heap.cells old → Lasts (nodes_of tree.now) state.old state.new result }
+{
+    match take_value(state, tree, value, &scope)? {
+        Taken::Value(right) => {
+            discard(scope);
+            write_applied(state, tree, operator, place, &old, &right)
+        }
+        Taken::Ended(next) => {
+            discard(old);
+            discard(place);
+            discard(scope);
+            Ok(next)
+        }
+        Taken::Nothing => enter_assigned(state, operator, value, place, scope, old),
+    }
+}
+
+/// The old value of the target of an assignment by an operator: evaluates the other operand in place, or enters it.
+pub fn after_assign_by(
+    state: &mut State,
+    tree: &Tree,
+    operator: BinaryOperator,
+    value: NodeId,
+    place: Place,
+    scope: Scope,
+    old: Value,
+) -> Result<Next, StepFault>
+    ensures does { IfOk result (λ next. Does (nodes_of tree.now) 4 (after_rest (nodes_of tree.now) (AfterFrame.AssignBy operator value place scope) old) state.old state.new next) }
+    ensures closed { IsClosed (nodes_of tree.now) state.old → PlaceFits (nodes_of tree.now) state.old.heap.cells place → ScopeFits (nodes_of tree.now) state.old.heap.cells scope → ValueFits state.old.heap.cells old → Lasts (nodes_of tree.now) state.old state.new result }
+{
+    match operator {
+        BinaryOperator::InstanceOf => enter_assigned(state, operator, value, place, scope, old),
+        other => assign_by(state, tree, other, value, place, scope, old),
+    }
 }

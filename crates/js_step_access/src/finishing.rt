@@ -1,7 +1,7 @@
 //! What operators leave, done (ECMA-262, 13.3, 13.4, 13.5.3, 13.10.2 and 13.15).
 ghost use Rattle.std.specs.Prelude.{IfOk};
 ghost use Rattle.js_names.specs.Patterns.{nodes_of};
-ghost use Rattle.js_machine.specs.Closed.{IsClosed, Lasts, PlaceFits, ValueFits};
+ghost use Rattle.js_machine.specs.Closed.{IsClosed, Lasts};
 ghost use Rattle.js_machine.specs.Does.{Does};
 ghost use Rattle.js_step_expr.specs.Fitting.{RemainingFits};
 ghost use Rattle.js_step_expr.specs.Left.{left_of};
@@ -9,21 +9,11 @@ ghost use Rattle.js_step_expr.specs.Left.{left_of};
 use crate::instance::instance_of;
 use crate::naming::read_name;
 use crate::usage::use_property;
-use crate::writing::write_place;
-use js_machine::{Next, Place, State};
+use crate::writing::assign_place;
+use js_machine::{Next, State};
 use js_semantics::StepFault;
 use js_step_expr::Remaining;
 use js_tree::Tree;
-use world_heap::Value;
-
-// Writes a place, and gives what was written.
-fn write(state: &mut State, tree: &Tree, place: Place, value: Value) -> Result<Next, StepFault>
-    ensures does { IfOk result (λ next. Does (nodes_of tree.now) 6 (left_of (nodes_of tree.now) (Remaining.Write place value)) state.old state.new next) }
-    ensures closed { IsClosed (nodes_of tree.now) state.old → PlaceFits (nodes_of tree.now) state.old.heap.cells place → ValueFits state.old.heap.cells value → Lasts (nodes_of tree.now) state.old state.new result }
-{
-    let result_value = value.copy(state.alloc)?;
-    write_place(state, tree, place, value, result_value)
-}
 
 /// Does what an operator has left: a name or property is read, written or removed, or `instanceof` told.
 pub fn finish(state: &mut State, tree: &Tree, remaining: Remaining) -> Result<Next, StepFault>
@@ -38,7 +28,7 @@ pub fn finish(state: &mut State, tree: &Tree, remaining: Remaining) -> Result<Ne
             usage,
             scope,
         } => use_property(state, tree, usage, base, key, scope),
-        Remaining::Write { place, value } => write(state, tree, place, value),
+        Remaining::Write { place, value } => assign_place(state, tree, place, value),
         Remaining::Instance { left, right, place } => instance_of(state, tree, left, right, place),
     }
 }

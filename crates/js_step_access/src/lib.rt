@@ -6,21 +6,25 @@
 #![tactic(auto)]
 
 mod after;
+mod binary;
 mod finishing;
 mod inheritance;
 mod instance;
 mod keys;
 mod naming;
+mod objects;
 mod removal;
 mod rows;
 mod usage;
 mod writing;
 
 pub use after::{after_assign_by, after_update};
+pub use binary::row_binary;
 pub use finishing::finish;
 pub use instance::{after_assign_instance, after_instance, instance_of};
 pub use keys::{copy_key, key_units, name_at};
 pub use naming::{read_name, row_name};
+pub use objects::{row_dot, row_index};
 pub use removal::delete;
 pub use rows::{operand, property, row_assign_with, row_typeof, row_update};
 pub use usage::use_property;

@@ -39,3 +39,19 @@ pub fn write_place(
         }
     }
 }
+
+/// Writes a place, and gives what was written. The cost is that of `write_place`.
+#[inline(always)]
+pub(crate) fn assign_place(
+    state: &mut State,
+    tree: &Tree,
+    place: Place,
+    value: Value,
+) -> Result<Next, StepFault>
+    ensures some { IfOk result (λ next. Does (nodes_of tree.now) 4 (write_place (nodes_of tree.now) place value (give value)) state.old state.new next) }
+    ensures many { IfOk result (λ next. Does (nodes_of tree.now) 6 (write_place (nodes_of tree.now) place value (give value)) state.old state.new next) }
+    ensures closed { IsClosed (nodes_of tree.now) state.old → PlaceFits (nodes_of tree.now) state.old.heap.cells place → ValueFits state.old.heap.cells value → Lasts (nodes_of tree.now) state.old state.new result }
+{
+    let result_value = value.copy(state.alloc)?;
+    write_place(state, tree, place, value, result_value)
+}

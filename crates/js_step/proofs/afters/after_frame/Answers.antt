@@ -11,7 +11,7 @@ pub returns-in-Typeof-clause-does : goal.returns-in-Typeof-clause-does
 returns-in-Typeof-clause-does c = rw c.in-Typeof.is (c.after_typeof.ensures.does (nodes_of c.args.tree.now))
 
 pub returns-in-AssignBy-clause-does : goal.returns-in-AssignBy-clause-does
-returns-in-AssignBy-clause-does c = rw c.in-AssignBy.is (c.after_assign_by.ensures.does (nodes_of c.args.tree.now))
+returns-in-AssignBy-clause-does c = rw c.in-AssignBy.is c.after_assign_by.ensures.does
 
 pub returns-in-Instance-clause-does : goal.returns-in-Instance-clause-does
 returns-in-Instance-clause-does c = rw c.in-Instance.is (c.after_instance.ensures.does (nodes_of c.args.tree.now))
@@ -32,7 +32,7 @@ pub returns-in-Update-clause-closed : goal.returns-in-Update-clause-closed
 returns-in-Update-clause-closed c closed frame value = c.after_update.ensures.closed closed (rw c.in-Update.is at frame) value
 
 pub returns-in-AssignBy-clause-closed : goal.returns-in-AssignBy-clause-closed
-returns-in-AssignBy-clause-closed c closed frame value = let fit = rw c.in-AssignBy.is at frame in c.after_assign_by.ensures.closed (nodes_of c.args.tree.now) closed fit.0 fit.1 value
+returns-in-AssignBy-clause-closed c closed frame value = let fit = rw c.in-AssignBy.is at frame in c.after_assign_by.ensures.closed closed fit.0 fit.1 value
 
 pub returns-in-Callee-clause-closed : goal.returns-in-Callee-clause-closed
 returns-in-Callee-clause-closed c closed frame value = let fit = rw c.in-Callee.is at frame in c.after_callee.ensures.closed closed fit.0 fit.1 value

@@ -1,7 +1,7 @@
 use Rattle.js_names.specs.Patterns.{nodes_of}
 use Rattle.js_semantics.specs.Rows.{row_of}
 use Rattle.js_machine.specs.Parts.{items_of, name_of, parts_of, texts_of}
-use Rattle.js_step.proofs.Closing.{literal_fits}
+use Rattle.js_primary.proofs.Numbers.{literal_fits}
 use Rattle.js_step.proofs.operands.row_operand.Goals as goal
 
 pub returns-in-Name-clause-does : goal.returns-in-Name-clause-does
@@ -22,7 +22,7 @@ returns-in-ObjectLit-clause-does c = rw c.in-ObjectLit.is (rw (c.requires.stands
 
 pub returns-in-Dot-clause-does : goal.returns-in-Dot-clause-does
 unfolding row_of name_of
-returns-in-Dot-clause-does c = rw c.in-Dot.is (rw (c.requires.stands, c.in-Dot.is) at (c.row_dot.ensures.does (nodes_of c.args.tree.now)))
+returns-in-Dot-clause-does c = rw c.in-Dot.is (rw (c.requires.stands, c.in-Dot.is) at c.row_dot.ensures.does)
 
 pub returns-in-Call-clause-does : goal.returns-in-Call-clause-does
 unfolding row_of items_of
@@ -66,10 +66,10 @@ pub returns-in-Arrow-clause-closed : goal.returns-in-Arrow-clause-closed
 returns-in-Arrow-clause-closed c closed scope = c.row_arrow.ensures.closed (nodes_of c.args.tree.now) closed scope
 
 pub returns-in-Dot-clause-closed : goal.returns-in-Dot-clause-closed
-returns-in-Dot-clause-closed c closed scope = c.row_dot.ensures.closed (nodes_of c.args.tree.now) closed (rw (c.requires.stands, c.in-Dot.is) tt) scope
+returns-in-Dot-clause-closed c closed scope = c.row_dot.ensures.closed closed (rw (c.requires.stands, c.in-Dot.is) tt) scope
 
 pub returns-in-Index-clause-closed : goal.returns-in-Index-clause-closed
-returns-in-Index-clause-closed c closed scope = c.row_index.ensures.closed (nodes_of c.args.tree.now) closed scope
+returns-in-Index-clause-closed c closed scope = c.row_index.ensures.closed closed scope
 
 pub returns-in-Call-clause-closed : goal.returns-in-Call-clause-closed
 returns-in-Call-clause-closed c closed scope = c.row_call.ensures.closed closed scope

@@ -26,7 +26,7 @@ pub returns-in-Update-clause-closed : goal.returns-in-Update-clause-closed
 returns-in-Update-clause-closed c closed scope = c.row_update.ensures.closed closed scope
 
 pub returns-in-Binary-clause-closed : goal.returns-in-Binary-clause-closed
-returns-in-Binary-clause-closed c closed scope = c.row_binary.ensures.closed (nodes_of c.args.tree.now) closed scope
+returns-in-Binary-clause-closed c closed scope = c.row_binary.ensures.closed closed scope
 
 pub returns-in-Unary-clause-closed : goal.returns-in-Unary-clause-closed
 returns-in-Unary-clause-closed c closed scope = c.row_unary.ensures.closed (nodes_of c.args.tree.now) closed scope

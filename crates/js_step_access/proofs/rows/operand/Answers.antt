@@ -1,17 +1,16 @@
-use Rattle.std.proofs.lemmas.Result.{err_from_is_err_and}
-use Rattle.js_names.specs.Patterns.{nodes_of}
-use Rattle.js_machine.proofs.Closing.{lasts_on}
 use Rattle.js_step_access.proofs.rows.operand.Goals as goal
 
-pub returns-in_err-next-clause-closed : goal.returns-in_err-next-clause-closed
-returns-in_err-next-clause-closed c closed frame value =
-    let p = err_from_is_err_and c.from_residual.result c.from_residual.ensures.1 in rw (p.1, p.2) (c.in_err-next.ensures.closed closed frame value)
+pub returns-in-BinaryLeft-clause-does : goal.returns-in-BinaryLeft-clause-does
+returns-in-BinaryLeft-clause-does c = rw c.in-BinaryLeft.is c.right_operand.ensures.does
 
-pub returns-in-Ok-clause-closed : goal.returns-in-Ok-clause-closed
-returns-in-Ok-clause-closed c closed frame value = (c.in_ok-next.ensures.closed closed frame value).0
+pub returns-in-AssignValue-clause-does : goal.returns-in-AssignValue-clause-does
+returns-in-AssignValue-clause-does c = rw c.in-AssignValue.is c.assign_place.ensures.many
 
-pub returns-in-Err-clause-closed : goal.returns-in-Err-clause-closed
-returns-in-Err-clause-closed c closed frame value =
-    let left = c.in_ok-next.ensures.closed closed frame value in
-    let went = left.0 in
-    lasts_on (nodes_of c.args.tree.now) c.args.state.now c.operand.new.state c.finish.new.state c.finish.result went (c.finish.ensures.closed went.closed (rw c.in-Err.is at left.1))
+pub returns-in-BinaryLeft-clause-closed : goal.returns-in-BinaryLeft-clause-closed
+returns-in-BinaryLeft-clause-closed c closed frame value = c.right_operand.ensures.closed closed (rw c.in-BinaryLeft.is at frame) value
+
+pub returns-in-AssignValue-clause-closed : goal.returns-in-AssignValue-clause-closed
+returns-in-AssignValue-clause-closed c closed frame value = c.assign_place.ensures.closed closed (rw c.in-AssignValue.is at frame) value
+
+pub returns-in_default-clause-closed : goal.returns-in_default-clause-closed
+returns-in_default-clause-closed c closed frame value = c.operand_part.ensures.closed closed frame value

@@ -1,17 +1,60 @@
+use Rattle.std.proofs.Common.{arith}
 use Rattle.std.proofs.lemmas.Result.{err_from_is_err_and}
 use Rattle.js_names.specs.Patterns.{nodes_of}
-use Rattle.js_machine.proofs.Closing.{lasts_on}
+use Rattle.std.proofs.Common.{refl}
+use Rattle.std.specs.Prelude.{ℕ, List, Option}
+use Rattle.world_heap.specs.declared.value.Value.{Value}
+use Rattle.js_tree.specs.declared.node.Node.{Node}
+use Rattle.js_semantics.specs.Prog.{Prog}
+use Rattle.js_semantics.specs.Access.{write_name}
+use Rattle.js_semantics.specs.Expressions.{assign_by, assign_with, row_assign_with}
+use Rattle.js_machine.proofs.Closing.{lasts_on, scope_grown}
+use Rattle.js_machine.proofs.Doing.{allowing_ok}
+use Rattle.js_step_access.proofs.Bound.{bound_ended, bound_named, bound_ok, not_bound_ok}
 use Rattle.js_step_access.proofs.rows.row_assign_with.Goals as goal
 
-pub returns-in_err-next-clause-closed : goal.returns-in_err-next-clause-closed
-returns-in_err-next-clause-closed c closed scope =
-    let p = err_from_is_err_and c.from_residual.result c.from_residual.ensures.1 in rw (p.1, p.2) (c.in_err-next.ensures.closed closed scope)
+pub returns-in-Value-clause-does : goal.returns-in-Value-clause-does
+unfolding row_assign_with
+returns-in-Value-clause-does c =
+    let nodes = nodes_of c.args.tree.now in
+    let f : Option Node → Prog ℕ = λ n. assign_with c.args.operator n c.args.value c.args.scope in
+    let k : List ℕ → Value ℕ → Prog ℕ = λ name old. assign_by c.args.operator old c.args.value c.args.scope (λ new p. write_name c.args.scope.env name new p) in
+    bound_ok nodes 6 f c.args.target c.args.scope.env k (λ name. refl) _ _ _ _ c.in-Value.old _ c.in_ok-old.ensures.does c.in-Value.is (allowing_ok nodes 4 6 _ _ _ _ (omega arith) c.after_assign_by.ensures.does)
 
-pub returns-in-Ok-clause-closed : goal.returns-in-Ok-clause-closed
-returns-in-Ok-clause-closed c closed scope = (c.in_ok-next.ensures.closed closed scope).0
+pub returns-in-Ended-clause-does : goal.returns-in-Ended-clause-does
+unfolding row_assign_with
+returns-in-Ended-clause-does c =
+    let nodes = nodes_of c.args.tree.now in
+    let f : Option Node → Prog ℕ = λ n. assign_with c.args.operator n c.args.value c.args.scope in
+    let k : List ℕ → Value ℕ → Prog ℕ = λ name old. assign_by c.args.operator old c.args.value c.args.scope (λ new p. write_name c.args.scope.env name new p) in
+    bound_ended nodes 6 f c.args.target c.args.scope.env k (λ name. refl) _ _ _ _ (omega arith) c.in_ok-old.ensures.does c.in-Ended.is
 
-pub returns-in-Err-clause-closed : goal.returns-in-Err-clause-closed
-returns-in-Err-clause-closed c closed scope =
-    let left = c.in_ok-next.ensures.closed closed scope in
-    let went = left.0 in
-    lasts_on (nodes_of c.args.tree.now) c.args.state.now c.row_assign_with.new.state c.finish.new.state c.finish.result went (c.finish.ensures.closed went.closed (rw c.in-Err.is at left.1))
+pub returns-in-Nothing-clause-does : goal.returns-in-Nothing-clause-does
+returns-in-Nothing-clause-does c = not_bound_ok (nodes_of c.args.tree.now) 6 _ c.args.target c.args.scope.env _ _ _ _ _ c.in_ok-old.ensures.does c.in-Nothing.is c.assign_target.ensures.does
+
+pub returns-in_err-old-clause-closed : goal.returns-in_err-old-clause-closed
+returns-in_err-old-clause-closed c closed scope =
+    let p = err_from_is_err_and c.from_residual.result c.from_residual.ensures.1 in rw (p.1, p.2) (c.in_err-old.ensures.closed closed)
+
+pub returns-in-Value-clause-closed : goal.returns-in-Value-clause-closed
+returns-in-Value-clause-closed c closed scope =
+    let nodes = nodes_of c.args.tree.now in
+    let old = c.args.state.now in
+    let mid = c.take_bound.new.state in
+    let went = c.in_ok-old.ensures.closed closed in
+    let around = scope_grown nodes old.heap.cells mid.heap.cells went.0.grows c.args.scope scope in
+    let named = bound_named nodes c.args.target c.args.scope.env old mid _ c.in-Value.old c.in_ok-old.ensures.does c.in-Value.is in
+    lasts_on nodes old mid c.after_assign_by.new.state c.after_assign_by.result went.0
+    (c.after_assign_by.ensures.closed went.0.closed (named, around.0) around (rw c.in-Value.is at went.1))
+
+pub returns-in-Ended-clause-closed : goal.returns-in-Ended-clause-closed
+returns-in-Ended-clause-closed c closed scope = (c.in_ok-old.ensures.closed closed).0
+
+pub returns-in-Nothing-clause-closed : goal.returns-in-Nothing-clause-closed
+returns-in-Nothing-clause-closed c closed scope =
+    let nodes = nodes_of c.args.tree.now in
+    let old = c.args.state.now in
+    let mid = c.take_bound.new.state in
+    let went = c.in_ok-old.ensures.closed closed in
+    lasts_on nodes old mid c.assign_target.new.state c.assign_target.result went.0
+    (c.assign_target.ensures.closed went.0.closed (scope_grown nodes old.heap.cells mid.heap.cells went.0.grows c.args.scope scope))

@@ -1,0 +1,57 @@
+use Rattle.std.proofs.Common.{arith}
+use Rattle.std.proofs.lemmas.Result.{err_from_is_err_and}
+use Rattle.js_names.specs.Patterns.{nodes_of}
+use Rattle.std.specs.Prelude.{ℕ}
+use Rattle.world_heap.specs.declared.value.Value.{Value}
+use Rattle.js_semantics.specs.Prog.{Prog}
+use Rattle.js_semantics.specs.Prog.{give}
+use Rattle.js_semantics.specs.Expressions.{apply}
+use Rattle.js_machine.specs.Frames.{write_place}
+use Rattle.js_machine.proofs.Closing.{place_fits_grown}
+use Rattle.js_machine.proofs.Closing.{lasts_on, scope_grown, value_grown}
+use Rattle.js_primary.proofs.Evaluating.{nothing_ok, taken_ended, taken_ok}
+use Rattle.js_step_access.proofs.after.assign_by.Goals as goal
+
+pub returns-in-Value-clause-does : goal.returns-in-Value-clause-does
+returns-in-Value-clause-does c =
+    let nodes = nodes_of c.args.tree.now in
+    let k : Value ℕ → Prog ℕ = λ v. apply c.args.operator c.args.old v (λ new. write_place nodes c.args.place new (give new)) in
+    taken_ok nodes 4 c.args.value c.args.scope k _ _ _ _ c.in-Value.right _ c.in_ok-right.ensures.does c.in-Value.is c.write_applied.ensures.does
+
+pub returns-in-Ended-clause-does : goal.returns-in-Ended-clause-does
+returns-in-Ended-clause-does c =
+    let nodes = nodes_of c.args.tree.now in
+    let k : Value ℕ → Prog ℕ = λ v. apply c.args.operator c.args.old v (λ new. write_place nodes c.args.place new (give new)) in
+    taken_ended nodes 4 c.args.value c.args.scope k _ _ _ _ (omega arith) c.in_ok-right.ensures.does c.in-Ended.is
+
+pub returns-in-Nothing-clause-does : goal.returns-in-Nothing-clause-does
+returns-in-Nothing-clause-does c =
+    let nodes = nodes_of c.args.tree.now in
+    nothing_ok nodes 4 _ c.args.value c.args.scope _ _ _ _ _ c.in_ok-right.ensures.does c.in-Nothing.is (c.enter_assigned.ensures.does nodes)
+
+pub returns-in_err-right-clause-closed : goal.returns-in_err-right-clause-closed
+returns-in_err-right-clause-closed c closed place scope was =
+    let p = err_from_is_err_and c.from_residual.result c.from_residual.ensures.1 in rw (p.1, p.2) (c.in_err-right.ensures.closed closed scope)
+
+pub returns-in-Value-clause-closed : goal.returns-in-Value-clause-closed
+returns-in-Value-clause-closed c closed place scope was =
+    let nodes = nodes_of c.args.tree.now in
+    let old = c.args.state.now in
+    let mid = c.take_value.new.state in
+    let went = c.in_ok-right.ensures.closed closed scope in
+    let around = scope_grown nodes old.heap.cells mid.heap.cells went.0.grows c.args.scope scope in
+    lasts_on nodes old mid c.write_applied.new.state c.write_applied.result went.0
+    (c.write_applied.ensures.closed went.0.closed (place_fits_grown nodes old.heap.cells mid.heap.cells went.0.grows c.args.place place) (value_grown nodes old.heap.cells mid.heap.cells went.0.grows c.args.old was) (rw c.in-Value.is at went.1))
+
+pub returns-in-Ended-clause-closed : goal.returns-in-Ended-clause-closed
+returns-in-Ended-clause-closed c closed place scope was = (c.in_ok-right.ensures.closed closed scope).0
+
+pub returns-in-Nothing-clause-closed : goal.returns-in-Nothing-clause-closed
+returns-in-Nothing-clause-closed c closed place scope was =
+    let nodes = nodes_of c.args.tree.now in
+    let old = c.args.state.now in
+    let mid = c.take_value.new.state in
+    let went = c.in_ok-right.ensures.closed closed scope in
+    let around = scope_grown nodes old.heap.cells mid.heap.cells went.0.grows c.args.scope scope in
+    lasts_on nodes old mid c.enter_assigned.new.state c.enter_assigned.result went.0
+    (c.enter_assigned.ensures.closed nodes went.0.closed (place_fits_grown nodes old.heap.cells mid.heap.cells went.0.grows c.args.place place) around (value_grown nodes old.heap.cells mid.heap.cells went.0.grows c.args.old was))
