@@ -1,5 +1,5 @@
 -- What is called and bound fits a heap.
-use Rattle.std.proofs.Common.{ℕ, zero, suc, List, [], ◌∷◌, ◌++◌, map, drop, Option, Some, None, false}
+use Rattle.std.proofs.Common.{ℕ, zero, suc, List, [], ◌∷◌, map, drop, Option, Some, None, false}
 use Rattle.std.specs.List.{flat_map}
 use Rattle.world_heap.specs.declared.value.Value.{Value}
 use Rattle.world_heap.specs.declared.cell.Binding.{Binding}
@@ -12,17 +12,13 @@ use Rattle.js_semantics.specs.Environments.{names_of, parameters_of, unready}
 use Rattle.js_names.specs.Growing.{Grows}
 use Rattle.js_machine.specs.declared.frame.AfterFrame.{AfterFrame}
 use Rattle.js_machine.specs.Closed.{AfterFits, FrameFits, ValueFits}
-use Rattle.js_machine.proofs.Closing.{after_grown}
+use Rattle.js_machine.proofs.Closing.{after_grown, list_append}
 use Rattle.js_calls.specs.Calling.{after_frame}
 
 pub drop_fits : {A : Type 0} (P : A → Type 0) (n : ℕ) (xs : List A) → ListOver P xs → ListOver P (drop n xs)
 drop_fits P zero xs h = h
 drop_fits P (suc n) [] h = tt
 drop_fits P (suc n) (x ∷ xs) h = drop_fits P n xs h.1
-
-append_fits : {A : Type 0} (P : A → Type 0) (xs ys : List A) → ListOver P xs → ListOver P ys → ListOver P (xs ++ ys)
-append_fits P [] ys h k = k
-append_fits P (x ∷ xs) ys h k = (h.0, append_fits P xs ys h.1 k)
 
 module _ (cells : List (ℕ × Cell ℕ)) where
   -- the first argument
@@ -39,7 +35,7 @@ module _ (cells : List (ℕ × Cell ℕ)) where
   unfolding parameters_of
   unready_fits nodes [] = tt
   unready_fits nodes (pattern ∷ patterns) =
-      append_fits (λ (b : Binding ℕ). OptionOver (ValueFits cells) b.value) (map (unready false) (names_of nodes pattern)) (flat_map (λ p. map (unready false) (names_of nodes p)) patterns) (names_fit (names_of nodes pattern)) (unready_fits nodes patterns)
+      list_append (λ (b : Binding ℕ). OptionOver (ValueFits cells) b.value) (map (unready false) (names_of nodes pattern)) (flat_map (λ p. map (unready false) (names_of nodes p)) patterns) (names_fit (names_of nodes pattern)) (unready_fits nodes patterns)
 
 -- what is done with the value of a call
 module _ (nodes : List Node) where

@@ -28,7 +28,7 @@ use Rattle.js_calls.specs.Assigning.{binding_target}
 use Rattle.js_calls.specs.Closed.{ConstructorFits, NamedFits, TargetFits}
 use Rattle.js_calls.specs.Constructing.{closure_maker, constructor_in, made_prototype, native_maker}
 use Rattle.js_calls.specs.Naming.{value_named}
-use Rattle.js_calls.proofs.Stored.{over_found}
+use Rattle.proto_props.proofs.Fitting.{over_found}
 
 -- what a cell makes
 pub constructor_fits : (nodes : List Node) (cells : List (ℕ × Cell ℕ)) (c : Cell ℕ) → Fits nat_eq cells c → ConstructorFits cells (constructor_in nodes (Some c))

@@ -12,7 +12,7 @@ use Rattle.world_heap.specs.declared.cell.Cell.{Cell}
 use Rattle.world_heap.specs.declared.cell.Cell.TheVariants.{Array, Buffer, View}
 use Rattle.world_heap.specs.declared.limits.HeapFault.{HeapFault}
 use Rattle.world_heap.specs.Maps.{find, put}
-use Rattle.world_heap.specs.Table.{found_under, put_under}
+use Rattle.world_heap.specs.Table.{put_under}
 use Rattle.world_heap.specs.Bodies.{body_of, with_body, with_byte}
 use Rattle.world_heap.specs.Over.{ListOver, OptionOver, PropertyOver, BodyOver, CellOver}
 use Rattle.world_heap.specs.Heaps.{IsCell, IsNoEnv, IsWithin, IsWell, Fits}
@@ -50,14 +50,6 @@ over_put P (e ∷ entries) key v h p =
     elim (pointwise nat_eq key e.0) as (λ t. ListOver (λ m. P m.1) (if t then (e.0, v) ∷ entries else e ∷ put_under entries key v)) [
       | true ↦ (p, h.1)
       | false ↦ (h.0, over_put P entries key v h.1 p)
-    ]
-
-pub over_found : {V : Type 0} (P : V → Type 0) (entries : List (List ℕ × V)) (key : List ℕ) → ListOver (λ m. P m.1) entries → OptionOver P (found_under entries key)
-over_found P [] key h = tt
-over_found P (e ∷ entries) key h =
-    elim (pointwise nat_eq key e.0) as (λ t. OptionOver P (if t then Some e.1 else found_under entries key)) [
-      | true ↦ h.0
-      | false ↦ over_found P entries key h.1
     ]
 
 byte_fits : (P E : ℕ → Type 0) (V : ℕ → ℕ → ℕ → Type 0) (c : Cell ℕ) (at byte : ℕ) → CellOver P E V c → CellOver P E V (with_byte c at byte)

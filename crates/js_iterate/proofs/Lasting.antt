@@ -1,5 +1,5 @@
 -- What is walked and filled keeps a state closed.
-use Rattle.std.proofs.Common.{◌≡◌, ℕ, zero, suc, ◌<◌, List, [], ◌∷◌, ◌++◌, length, get_or, Option, Some, None, Result, Ok, Err, nat_eq, refl, sym, subst, arith}
+use Rattle.std.proofs.Common.{◌≡◌, ℕ, zero, suc, ◌<◌, List, [], ◌∷◌, length, get_or, Option, Some, None, Result, Ok, Err, nat_eq, refl, sym, subst, arith}
 use Rattle.js_tree.specs.declared.node.Node.{Node}
 use Rattle.world_heap.specs.declared.value.Value.{Value}
 use Rattle.world_heap.specs.declared.cell.Cell.{Cell}
@@ -8,20 +8,19 @@ use Rattle.world_heap.specs.declared.cell.MapEntry.{MapEntry}
 use Rattle.world_heap.specs.declared.builtin.BuiltIn.TheVariants.{ArrayPrototype}
 use Rattle.world_heap.specs.Maps.{find}
 use Rattle.world_heap.specs.Over.{ListOver, list_more, value_more}
-use Rattle.world_heap.specs.Heaps.{Fits, IsCell, IsNoEnv, IsWell}
+use Rattle.world_heap.specs.Heaps.{Fits, IsNoEnv, IsWell}
 use Rattle.world_heap.proofs.Wells.{fits_found}
 use Rattle.js_semantics.specs.Iteration.{items_at}
-use Rattle.js_names.specs.Growing.{Grows, IsOpen}
-use Rattle.js_names.proofs.Growing.{cell_grown, grows_not}
+use Rattle.js_names.specs.Growing.{Grows}
 use Rattle.js_machine.specs.declared.state.State.{State}
 use Rattle.js_machine.specs.declared.state.Next.{Next}
-use Rattle.js_machine.specs.Closed.{GoesOn, IsClosed, IsNamed, ValueFits}
-use Rattle.js_machine.proofs.Closing.{built_in_fits, target_more, values_grown}
+use Rattle.js_machine.specs.Closed.{GoesOn, IsClosed, ValueFits}
+use Rattle.js_machine.proofs.Closing.{built_in_fits, target_grown, values_grown}
 use Rattle.js_step_object.proofs.Lasting.{array_cell}
 use Rattle.js_iterate.specs.declared.arguments.Pending.{Pending}
 use Rattle.js_iterate.specs.declared.walking.Walked.{Walked}
 use Rattle.js_iterate.specs.Walking.{walked_in}
-use Rattle.js_iterate.specs.Closed.{EntryFits, LastsWith, PendingFits, WalkedFits}
+use Rattle.js_iterate.specs.Closed.{EntryFits, LastsMaking, PendingFits, WalkedFits}
 
 -- a member of a list
 at_over : {A : Type 0} (P : A → Type 0) (xs : List A) (i : ℕ) (x : A) → ListOver P xs → i < length xs → x ≡ get_or xs i x → P x
@@ -29,21 +28,12 @@ at_over P [] i x h below is = absurd (omega arith)
 at_over P (y ∷ ys) zero x h below is = subst P (sym is) h.0
 at_over P (y ∷ ys) (suc i) x h below is = at_over P ys i x h.1 (omega arith) is
 
--- one list behind another
-pub append_fits : {A : Type 0} (P : A → Type 0) (xs ys : List A) → ListOver P xs → ListOver P ys → ListOver P (xs ++ ys)
-append_fits P [] ys h k = k
-append_fits P (x ∷ xs) ys h k = (h.0, append_fits P xs ys h.1 k)
-
--- nothing is done
-pub still : (nodes : List Node) (s : State) → IsClosed nodes s → GoesOn nodes s s
-still nodes s closed = record { closed = closed; grows = grows_not s.heap.cells }
-
 -- what is answered for a location
 module _ (F : List (ℕ × Cell ℕ) → ℕ → Type 0) (nodes : List Node) (old new : State) (made : Result ℕ Next) where
-  pub made_with : (loc : ℕ) → made ≡ Ok loc → LastsWith F nodes old new (Ok made) → GoesOn nodes old new × F new.heap.cells loc
+  pub made_with : (loc : ℕ) → made ≡ Ok loc → LastsMaking F nodes old new (Ok made) → GoesOn nodes old new × F new.heap.cells loc
   made_with loc is h = rw is at h
 
-  pub ended_with : (next : Next) → made ≡ Err next → LastsWith F nodes old new (Ok made) → GoesOn nodes old new
+  pub ended_with : (next : Next) → made ≡ Err next → LastsMaking F nodes old new (Ok made) → GoesOn nodes old new
   ended_with next is h = rw is at h
 
 -- what fits a heap fits what it goes on to
@@ -64,7 +54,7 @@ module _ (old new : List (ℕ × Cell ℕ)) (grows : Grows old new) where
   pub pending_grown : (nodes : List Node) (pending : Pending ℕ) → PendingFits nodes old pending → PendingFits nodes new pending
   pending_grown nodes pending h = (
     values_grown nodes old new grows pending.before h.0,
-    target_more (IsNoEnv nat_eq old) (IsNoEnv nat_eq new) grows.no_env (IsCell nat_eq old) (IsCell nat_eq new) (cell_grown old new grows) (IsOpen old) (IsOpen new) grows.open_array (IsNamed nodes) pending.target h.1,
+    target_grown nodes old new grows pending.target h.1,
   )
 
 -- an array of values that fit may be made

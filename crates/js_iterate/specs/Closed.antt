@@ -34,15 +34,15 @@ module _ (cells : List (ℕ × Cell ℕ)) where
 
 -- what arguments are for, and a call whose arguments are being evaluated (ECMA-262, 13.3.8.1)
 module _ (nodes : List Node) (cells : List (ℕ × Cell ℕ)) where
-  abbrev pub TargetFits : CallTarget ℕ → Type 0
-  TargetFits target = TargetOver (IsNoEnv nat_eq cells) (IsCell nat_eq cells) (IsOpen cells) (IsNamed nodes) target
+  abbrev pub CallTargetFits : CallTarget ℕ → Type 0
+  CallTargetFits target = TargetOver (IsNoEnv nat_eq cells) (IsCell nat_eq cells) (IsOpen cells) (IsNamed nodes) target
 
   abbrev pub PendingFits : Pending ℕ → Type 0
-  PendingFits pending = ListOver (ValueFits cells) pending.before × TargetFits pending.target
+  PendingFits pending = ListOver (ValueFits cells) pending.before × CallTargetFits pending.target
 
 -- What is answered for a location, from a closed state: the state goes on, and the location fits its heap, where there is
 -- one; else memory runs out.
-abbrev pub LastsWith : (List (ℕ × Cell ℕ) → ℕ → Type 0) → List Node → State → State → Result (Result ℕ Next) StepFault → Type 0
-LastsWith F nodes old new (Ok (Ok loc)) = GoesOn nodes old new × F new.heap.cells loc
-LastsWith F nodes old new (Ok (Err next)) = GoesOn nodes old new
-LastsWith F nodes old new (Err fault) = fault ≡ Memory
+abbrev pub LastsMaking : (List (ℕ × Cell ℕ) → ℕ → Type 0) → List Node → State → State → Result (Result ℕ Next) StepFault → Type 0
+LastsMaking F nodes old new (Ok (Ok loc)) = GoesOn nodes old new × F new.heap.cells loc
+LastsMaking F nodes old new (Ok (Err next)) = GoesOn nodes old new
+LastsMaking F nodes old new (Err fault) = fault ≡ Memory

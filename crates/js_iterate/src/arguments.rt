@@ -12,7 +12,7 @@ ghost use Rattle.js_machine.specs.Closed.{IsClosed, Lasts, ScopeFits, ValueFits}
 ghost use Rattle.js_machine.specs.Does.{Does};
 ghost use Rattle.js_machine.specs.Frames.{arguments_rest, call_rest, target_call};
 ghost use Rattle.js_iterate.specs.Calls.{pending_rest};
-ghost use Rattle.js_iterate.specs.Closed.{PendingFits, TargetFits};
+ghost use Rattle.js_iterate.specs.Closed.{PendingFits, CallTargetFits};
 
 use crate::rests::items_at;
 use crate::walking::walk_value;
@@ -147,7 +147,7 @@ fn finish(
     arguments: Items<Value>,
 ) -> Result<Next, StepFault>
     ensures does { IfOk result (λ ended. Does (nodes_of tree.now) 4 (target_call (nodes_of tree.now) target arguments) state.old state.new ended) }
-    ensures closed { IsClosed (nodes_of tree.now) state.old → TargetFits (nodes_of tree.now) state.old.heap.cells target → ListOver (ValueFits state.old.heap.cells) arguments → Lasts (nodes_of tree.now) state.old state.new result }
+    ensures closed { IsClosed (nodes_of tree.now) state.old → CallTargetFits (nodes_of tree.now) state.old.heap.cells target → ListOver (ValueFits state.old.heap.cells) arguments → Lasts (nodes_of tree.now) state.old state.new result }
 {
     match target {
         CallTarget::Call { callee, receiver } => call(state, tree, callee, receiver, arguments),

@@ -8,7 +8,7 @@ ghost use Rattle.world_heap.specs.Over.{ListOver};
 ghost use Rattle.js_names.specs.Growing.{IsOpen};
 ghost use Rattle.js_machine.specs.Closed.{IsClosed, Lasts, ValueFits};
 ghost use Rattle.js_step_object.specs.Defining.{Comes, Makes};
-ghost use Rattle.js_iterate.specs.Closed.{EntryFits, IsMade, LastsWith};
+ghost use Rattle.js_iterate.specs.Closed.{EntryFits, IsMade, LastsMaking};
 
 use crate::walking::Walking;
 use js_machine::{Next, State, discard, stopped};
@@ -24,7 +24,7 @@ use world_log::Stop;
 /// Makes an array of these values (ECMA-262, 7.3.18: CreateArrayFromList), or the row has ended, since the world stops.
 pub fn new_array(state: &mut State, items: Items<Value>) -> Result<Walking, StepFault>
     ensures does { (nodes : List kind.Node) → IfOk result (λ made. Makes nodes (λ k. make_array items k) state.old state.new made) }
-    ensures closed { (nodes : List kind.Node) → IsClosed nodes state.old → ListOver (ValueFits state.old.heap.cells) items → LastsWith IsMade nodes state.old state.new result }
+    ensures closed { (nodes : List kind.Node) → IsClosed nodes state.old → ListOver (ValueFits state.old.heap.cells) items → LastsMaking IsMade nodes state.old state.new result }
 {
     match state.make_array(items)? {
         Ok(loc) => Ok(Ok(loc)),

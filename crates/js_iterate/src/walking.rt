@@ -9,7 +9,7 @@ ghost use Rattle.js_semantics.specs.Iteration.{points_of, push_entries, push_ite
 ghost use Rattle.js_semantics.specs.Prog.{throw};
 ghost use Rattle.js_machine.specs.Closed.{IsClosed, ValueFits};
 ghost use Rattle.js_step_object.specs.Defining.{Makes};
-ghost use Rattle.js_iterate.specs.Closed.{EntryFits, LastsWith, WalkedFits};
+ghost use Rattle.js_iterate.specs.Closed.{EntryFits, LastsMaking, WalkedFits};
 ghost use Rattle.js_iterate.specs.Walking.{walk_found, walked_in};
 
 use crate::filling::{new_array, push_entries, push_points, push_values};
@@ -85,7 +85,7 @@ fn walked_at(alloc: Global, heap: &Heap, loc: Loc) -> Result<Walked, StepFault>
 // Throws, since the value can't be walked.
 fn refuse(state: &mut State) -> Result<Walking, StepFault>
     ensures does { (nodes : List kind.Node) → IfOk result (λ made. Makes nodes (λ k. throw Fault.NotIterable) state.old state.new made) }
-    ensures closed { (nodes : List kind.Node) → IsClosed nodes state.old → LastsWith (IsNoEnv nat_eq) nodes state.old state.new result }
+    ensures closed { (nodes : List kind.Node) → IsClosed nodes state.old → LastsMaking (IsNoEnv nat_eq) nodes state.old state.new result }
 {
     match state.throw(Fault::NotIterable) {
         Ok(next) => Ok(Err(next)),
@@ -96,7 +96,7 @@ fn refuse(state: &mut State) -> Result<Walking, StepFault>
 // A new array of values.
 fn walk_values(state: &mut State, values: &[Value]) -> Result<Walking, StepFault>
     ensures does { (nodes : List kind.Node) → IfOk result (λ made. Makes nodes (λ k. make_array [] (λ array. push_items array values.now (k array))) state.old state.new made) }
-    ensures closed { (nodes : List kind.Node) → IsClosed nodes state.old → ListOver (ValueFits state.old.heap.cells) values.now → LastsWith (IsNoEnv nat_eq) nodes state.old state.new result }
+    ensures closed { (nodes : List kind.Node) → IsClosed nodes state.old → ListOver (ValueFits state.old.heap.cells) values.now → LastsMaking (IsNoEnv nat_eq) nodes state.old state.new result }
 {
     let empty = Items::new(state.alloc);
     let array = match new_array(state, empty)? {
@@ -112,7 +112,7 @@ fn walk_values(state: &mut State, values: &[Value]) -> Result<Walking, StepFault
 // A new array of the entries of a Map.
 fn walk_entries(state: &mut State, entries: &[MapEntry]) -> Result<Walking, StepFault>
     ensures does { (nodes : List kind.Node) → IfOk result (λ made. Makes nodes (λ k. make_array [] (λ array. push_entries array entries.now (k array))) state.old state.new made) }
-    ensures closed { (nodes : List kind.Node) → IsClosed nodes state.old → ListOver (EntryFits state.old.heap.cells) entries.now → LastsWith (IsNoEnv nat_eq) nodes state.old state.new result }
+    ensures closed { (nodes : List kind.Node) → IsClosed nodes state.old → ListOver (EntryFits state.old.heap.cells) entries.now → LastsMaking (IsNoEnv nat_eq) nodes state.old state.new result }
 {
     let empty = Items::new(state.alloc);
     let array = match new_array(state, empty)? {
@@ -128,7 +128,7 @@ fn walk_entries(state: &mut State, entries: &[MapEntry]) -> Result<Walking, Step
 // A new array of the code points of a text.
 fn walk_text(state: &mut State, text: &Units) -> Result<Walking, StepFault>
     ensures does { (nodes : List kind.Node) → IfOk result (λ made. Makes nodes (λ k. make_array [] (λ array. push_texts array (points_of text.now) (k array))) state.old state.new made) }
-    ensures closed { (nodes : List kind.Node) → IsClosed nodes state.old → LastsWith (IsNoEnv nat_eq) nodes state.old state.new result }
+    ensures closed { (nodes : List kind.Node) → IsClosed nodes state.old → LastsMaking (IsNoEnv nat_eq) nodes state.old state.new result }
 {
     let empty = Items::new(state.alloc);
     let array = match new_array(state, empty)? {
@@ -145,7 +145,7 @@ fn walk_text(state: &mut State, text: &Units) -> Result<Walking, StepFault>
 #[tactic(auto, unfolding(crate::specs::Walking::walk_found))]
 fn walk_found(state: &mut State, found: &Walked, loc: Loc) -> Result<Walking, StepFault>
     ensures does { (nodes : List kind.Node) → IfOk result (λ made. Makes nodes (λ k. walk_found found.now loc k) state.old state.new made) }
-    ensures closed { (nodes : List kind.Node) → IsClosed nodes state.old → WalkedFits state.old.heap.cells found.now → IsNoEnv nat_eq state.old.heap.cells loc → LastsWith (IsNoEnv nat_eq) nodes state.old state.new result }
+    ensures closed { (nodes : List kind.Node) → IsClosed nodes state.old → WalkedFits state.old.heap.cells found.now → IsNoEnv nat_eq state.old.heap.cells loc → LastsMaking (IsNoEnv nat_eq) nodes state.old state.new result }
 {
     match found {
         Walked::Itself => Ok(Ok(loc)),
@@ -158,7 +158,7 @@ fn walk_found(state: &mut State, found: &Walked, loc: Loc) -> Result<Walking, St
 // The array that is walked for a location.
 fn walk_loc(state: &mut State, loc: Loc) -> Result<Walking, StepFault>
     ensures does { (nodes : List kind.Node) → IfOk result (λ made. Makes nodes (λ k. walk_value (Value.Ref loc) k) state.old state.new made) }
-    ensures closed { (nodes : List kind.Node) → IsClosed nodes state.old → IsNoEnv nat_eq state.old.heap.cells loc → LastsWith (IsNoEnv nat_eq) nodes state.old state.new result }
+    ensures closed { (nodes : List kind.Node) → IsClosed nodes state.old → IsNoEnv nat_eq state.old.heap.cells loc → LastsMaking (IsNoEnv nat_eq) nodes state.old state.new result }
 {
     let found = walked_at(state.alloc, &state.heap, loc)?;
     walk_found(state, &found, loc)
@@ -175,7 +175,7 @@ fn walk_loc(state: &mut State, loc: Loc) -> Result<Walking, StepFault>
 #[tactic(auto, unfolding(js_semantics::specs::Iteration::walk_value))]
 pub fn walk_value(state: &mut State, value: &Value) -> Result<Walking, StepFault>
     ensures does { (nodes : List kind.Node) → IfOk result (λ made. Makes nodes (λ k. walk_value value.now k) state.old state.new made) }
-    ensures closed { (nodes : List kind.Node) → IsClosed nodes state.old → ValueFits state.old.heap.cells value.now → LastsWith (IsNoEnv nat_eq) nodes state.old state.new result }
+    ensures closed { (nodes : List kind.Node) → IsClosed nodes state.old → ValueFits state.old.heap.cells value.now → LastsMaking (IsNoEnv nat_eq) nodes state.old state.new result }
 {
     match value {
         Value::Ref(loc) => walk_loc(state, *loc),

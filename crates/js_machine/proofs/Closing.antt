@@ -180,6 +180,11 @@ module _ {L : Type 0} (P Q : L → Type 0) (more : (l : L) → P l → Q l) (E F
   control_more (controls.Wait mode) h = tt
   control_more controls.Stop h = tt
 
+-- one list behind another
+pub list_append : {A : Type 0} (P : A → Type 0) (xs ys : List A) → ListOver P xs → ListOver P ys → ListOver P (xs ++ ys)
+list_append P [] ys h k = k
+list_append P (x ∷ xs) ys h k = (h.0, list_append P xs ys h.1 k)
+
 -- what fits a heap fits what it goes on to
 module _ (nodes : List Node) (old new : List (ℕ × Cell ℕ)) (grows : Grows old new) where
   pub value_grown : (v : Value ℕ) → ValueFits old v → ValueFits new v
@@ -196,6 +201,9 @@ module _ (nodes : List Node) (old new : List (ℕ × Cell ℕ)) (grows : Grows o
 
   pub after_grown : (f : AfterFrame ℕ) → AfterFits nodes old f → AfterFits nodes new f
   after_grown f h = after_more (IsNoEnv nat_eq old) (IsNoEnv nat_eq new) grows.no_env (IsCell nat_eq old) (IsCell nat_eq new) (cell_grown old new grows) (IsOpen old) (IsOpen new) grows.open_array (IsNamed nodes) f h
+
+  pub target_grown : (t : CallTarget ℕ) → TargetOver (IsNoEnv nat_eq old) (IsCell nat_eq old) (IsOpen old) (IsNamed nodes) t → TargetOver (IsNoEnv nat_eq new) (IsCell nat_eq new) (IsOpen new) (IsNamed nodes) t
+  target_grown t h = target_more (IsNoEnv nat_eq old) (IsNoEnv nat_eq new) grows.no_env (IsCell nat_eq old) (IsCell nat_eq new) (cell_grown old new grows) (IsOpen old) (IsOpen new) grows.open_array (IsNamed nodes) t h
 
   pub frame_grown : (f : Frame ℕ) → FrameFits nodes old f → FrameFits nodes new f
   frame_grown f h = frame_more (IsNoEnv nat_eq old) (IsNoEnv nat_eq new) grows.no_env (IsCell nat_eq old) (IsCell nat_eq new) (cell_grown old new grows) (IsOpen old) (IsOpen new) grows.open_array (IsNamed nodes) f h
@@ -221,6 +229,10 @@ closed_control nodes old control closed fit = record {
   closed = record { well = closed.well; realm = closed.realm; frames = closed.frames; control = fit };
   grows = grows_not old.heap.cells;
 }
+
+-- a state that stays what it is
+pub stays_closed : (nodes : List Node) (s : State) → IsClosed nodes s → GoesOn nodes s s
+stays_closed nodes s closed = record { closed = closed; grows = grows_not s.heap.cells }
 
 -- one state after another
 pub goes_on : (nodes : List Node) (old mid new : State) → GoesOn nodes old mid → GoesOn nodes mid new → GoesOn nodes old new

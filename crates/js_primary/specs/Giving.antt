@@ -1,5 +1,5 @@
 -- What comes of a node whose value is at hand (ECMA-262, 13.1 and 13.2).
-use Rattle.std.specs.Prelude.{◌≡◌, ℕ, true, false, List, Some, slice_get}
+use Rattle.std.specs.Prelude.{◌≡◌, ℕ, true, false, List, Option, Some, None, slice_get}
 use Rattle.world_heap.specs.declared.value.Value.{Value}
 use Rattle.world_heap.specs.declared.cell.Cell.{Cell}
 use Rattle.js_tree.specs.declared.node.NodeId.{NodeId}
@@ -15,7 +15,7 @@ use Rattle.js_semantics.specs.Run.{Arrival, Budget, run}
 use Rattle.js_machine.specs.declared.state.State.{State}
 use Rattle.js_machine.specs.declared.state.Next.TheVariants.{Made}
 use Rattle.js_machine.specs.Closed.{ValueFits}
-use Rattle.js_machine.specs.Does.{Does, Moves, StepsDown, world_of}
+use Rattle.js_machine.specs.Does.{Does, Moves, StepsDown}
 use Rattle.js_primary.specs.declared.taking.Taken.{Taken}
 use Rattle.js_primary.specs.declared.taking.Taken.TheVariants as taken
 
@@ -27,17 +27,16 @@ ComesTo p w q = (ds : List Arrival) (b : Budget) (k : Cont ℕ) → run ds b w (
 abbrev pub Gives : Prog ℕ → World ℕ → Value ℕ → Type 0
 Gives p w v = ComesTo p w (give v)
 
--- In this state a node is a name that stands for a value, where it is read from an environment on.
-pub record Names (nodes : List Node) (node : NodeId) (env : ℕ) (s : State) (v : Value ℕ) : Type 0 where
-  pub name : List ℕ
-  pub is : slice_get nodes node.0 ≡ Some (kinds.Name name)
-  pub reads : (supply : ℕ → ℕ) (absent : Prog ℕ) (k : Value ℕ → Prog ℕ) → ComesTo (read_name env name absent k) (world_of nodes supply s) (k v)
-
 -- A step is taken and the value kept, or none was left.
 abbrev pub StepsTo : Value ℕ → State → State → Taken ℕ → Type 0
 StepsTo value old new (taken.Value v) = (v ≡ value) × StepsDown old new true
 StepsTo value old new (taken.Ended next) = (next ≡ Made (Stopped Fuel)) × StepsDown old new false
 StepsTo value old new taken.Nothing = ⊥
+
+-- where a value is at hand its step is taken, or none was left; else nothing is done
+abbrev pub TakesGiven : Option (Value ℕ) → State → State → Taken ℕ → Type 0
+TakesGiven (Some value) old new t = StepsTo value old new t
+TakesGiven None old new t = (t ≡ taken.Nothing) × (new ≡ old)
 
 -- A program that goes on with a value by k comes to k at the value taken, or the world has stopped; or else nothing is done.
 abbrev pub Comes : List Node → Prog ℕ → (Value ℕ → Prog ℕ) → State → State → Taken ℕ → Type 0

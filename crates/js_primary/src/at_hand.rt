@@ -1,20 +1,17 @@
 //! The values of literals, of `this`, and of names that are bound (ECMA-262, 13.1 and 13.2).
-ghost use Rattle.std.specs.Prelude.{◌≡◌, ℕ, List, Some, IfOk, IfSome, MatchResult};
+ghost use Rattle.std.specs.Prelude.{◌≡◌, ℕ, List, Some, IfOk, MatchResult};
 ghost use Rattle.js_tree.specs.declared.node.Node as kind;
 ghost use Rattle.world_heap.specs.Over.{OptionOver};
+ghost use Rattle.js_semantics.specs.Environments.{binding_of};
 ghost use Rattle.js_semantics.specs.Operators.{literal_number};
-ghost use Rattle.js_semantics.specs.Rows.{row, row_of};
-ghost use Rattle.js_semantics.specs.Access.{read_name};
-ghost use Rattle.js_semantics.specs.Prog.{Prog};
-ghost use Rattle.world_heap.specs.declared.value.Value as values;
 ghost use Rattle.js_machine.specs.Closed.{IsClosed, ScopeFits, ValueFits};
 ghost use Rattle.js_machine.specs.Does.{world_of};
-ghost use Rattle.js_primary.specs.Giving.{ComesTo, Gives};
+ghost use Rattle.js_primary.specs.AtHand.{at_hand, held, name_at_hand, ready};
 
 use js_calls::{Named, meaning_of};
 use js_machine::{State, discard};
 use js_semantics::{Scope, StepFault};
-use js_tree::{Node, NodeId};
+use js_tree::Node;
 use std::alloc::Global;
 use wl_text::Units;
 use world_heap::{Loc, Value};
@@ -49,35 +46,61 @@ fn text_value(alloc: Global, text: &Units) -> Result<Option<Value>, StepFault>
     Ok(Some(Value::Str(text.copy(alloc)?)))
 }
 
-// The value of a name that is bound and ready.
+// The value that a name stands for as a binding.
 #[inline(always)]
-pub(crate) fn bound(state: &State, env: Loc, name: &Units) -> Result<Option<Value>, StepFault>
-    ensures is { (nodes : List kind.Node) (supply : ℕ → ℕ) (absent : Prog ℕ) (k : values.Value ℕ → Prog ℕ) → IfOk result (λ found. IfSome found (λ v. ComesTo (read_name env name.now absent k) (world_of nodes supply state.now) (k v))) }
-    ensures closed { (nodes : List kind.Node) → IsClosed nodes state.now → MatchResult result (λ found. OptionOver (ValueFits state.now.heap.cells) found) (λ fault. fault ≡ StepFault.Memory) }
+#[tactic(auto, unfolding(crate::specs::AtHand::held))]
+fn held(meant: Named) -> Option<Value>
+    ensures { result ≡ held meant }
 {
-    match meaning_of(state, env, name)? {
-        Named::Held(value) => Ok(Some(value)),
+    match meant {
+        Named::Held(value) => Some(value),
         other => {
             discard(other);
-            Ok(None)
+            None
         }
     }
 }
 
-/// The value of a node, where it is at hand: that of a literal, of `this`, or of a name with a binding that is ready. None
+// The value of a name's innermost binding, where it is ready.
+#[inline(always)]
+fn bound(state: &State, env: Loc, name: &Units) -> Result<Option<Value>, StepFault>
+    ensures is { (nodes : List kind.Node) (supply : ℕ → ℕ) → IfOk result (λ found. found ≡ ready (binding_of env name.now (world_of nodes supply state.now))) }
+    ensures closed { (nodes : List kind.Node) → IsClosed nodes state.now → MatchResult result (λ found. OptionOver (ValueFits state.now.heap.cells) found) (λ fault. fault ≡ StepFault.Memory) }
+{
+    let meant = meaning_of(state, env, name)?;
+    Ok(held(meant))
+}
+
+/// The value of a node that is a name, where its innermost binding from an environment on is ready; `None` for any other
+/// node. The cost is that of `meaning_of`.
+///
+/// # Errors
+/// Those of `meaning_of`.
+#[tactic(auto, unfolding(crate::specs::AtHand::name_at_hand))]
+pub(crate) fn name_at_hand(state: &State, node: &Node, env: Loc) -> Result<Option<Value>, StepFault>
+    ensures is { (nodes : List kind.Node) (supply : ℕ → ℕ) → IfOk result (λ found. found ≡ name_at_hand (Some node.now) env (world_of nodes supply state.now)) }
+    ensures closed { (nodes : List kind.Node) → IsClosed nodes state.now → MatchResult result (λ found. OptionOver (ValueFits state.now.heap.cells) found) (λ fault. fault ≡ StepFault.Memory) }
+{
+    match node {
+        Node::Name(name) => bound(state, env, name),
+        _ => Ok(None),
+    }
+}
+
+/// The value of a node, where it is at hand: that of a literal, of `this`, or of a name with a binding that is ready. `None`
 /// for any other node, and for a name that is no binding's or isn't ready. The cost for a name is linear in the
 /// environments around it and their bindings, and in the chain of the global object's prototypes where none binds it; a
 /// string is shared, not copied.
 ///
 /// # Errors
 /// `Memory` where there is none; `Dangling` where the global object stands nowhere, which is never in a closed state.
-pub fn value_at_hand(
+#[tactic(auto, unfolding(crate::specs::AtHand::at_hand))]
+pub(crate) fn value_at_hand(
     state: &State,
     node: &Node,
-    id: NodeId,
     scope: &Scope,
 ) -> Result<Option<Value>, StepFault>
-    ensures is { (nodes : List kind.Node) (supply : ℕ → ℕ) → IfOk result (λ found. IfSome found (λ v. Gives (row_of (Some node.now) id scope.now) (world_of nodes supply state.now) v)) }
+    ensures is { (nodes : List kind.Node) (supply : ℕ → ℕ) → IfOk result (λ found. found ≡ at_hand (Some node.now) scope.now (world_of nodes supply state.now)) }
     ensures closed { (nodes : List kind.Node) → IsClosed nodes state.now → ScopeFits nodes state.now.heap.cells scope.now → MatchResult result (λ found. OptionOver (ValueFits state.now.heap.cells) found) (λ fault. fault ≡ StepFault.Memory) }
 {
     match node {

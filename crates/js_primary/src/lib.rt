@@ -5,5 +5,5 @@
 mod at_hand;
 mod taking;
 
-pub use at_hand::{number_value, value_at_hand};
+pub use at_hand::number_value;
 pub use taking::{Taken, take_bound, take_value};

@@ -1,20 +1,18 @@
 //! Evaluating a node in place.
-ghost use Rattle.std.specs.Prelude.{◌≡◌, ℕ, List, Some, IfOk, IfSome, MatchResult, slice_get};
+ghost use Rattle.std.specs.Prelude.{◌≡◌, ℕ, List, IfOk, MatchResult, slice_get};
 ghost use Rattle.js_tree.specs.declared.node.Node as kind;
-ghost use Rattle.js_tree.specs.declared.node.NodeId as ids;
 ghost use Rattle.world_heap.specs.Over.{OptionOver};
 ghost use Rattle.js_names.specs.Patterns.{nodes_of};
-ghost use Rattle.js_semantics.specs.Prog.{Node as NodeRequest};
-ghost use Rattle.js_semantics.specs.Rows.{row};
 ghost use Rattle.js_machine.specs.Closed.{GoesOn, IsClosed, ScopeFits, ValueFits};
-ghost use Rattle.js_machine.specs.Does.{StepsDown, world_of};
+ghost use Rattle.js_machine.specs.Does.{world_of};
 ghost use Rattle.js_step_expr.specs.Fitting.{LastsWith};
-ghost use Rattle.js_primary.specs.Giving.{Gives, Names, StepsTo, TakenFits, Takes, TakesBound};
+ghost use Rattle.js_primary.specs.AtHand.{at_hand, name_at_hand};
+ghost use Rattle.js_primary.specs.Giving.{StepsTo, TakenFits, Takes, TakesBound, TakesGiven};
 
-use crate::at_hand::{bound, value_at_hand};
+use crate::at_hand::{name_at_hand, value_at_hand};
 use js_machine::{Next, State, discard, node_at, stopped};
 use js_semantics::{Scope, StepFault};
-use js_tree::{Node, NodeId, Tree};
+use js_tree::{NodeId, Tree};
 use world_heap::{Loc, Value};
 use world_log::Stop;
 
@@ -44,32 +42,37 @@ fn step_to(state: &mut State, value: Value) -> Taken
 }
 
 // The value of the node with a number, where it is at hand.
+#[tactic(auto, unfolding(crate::specs::AtHand::at_hand))]
 fn value_found(
     state: &State,
     tree: &Tree,
     node: NodeId,
     scope: &Scope,
 ) -> Result<Option<Value>, StepFault>
-    ensures is { (supply : ℕ → ℕ) → IfOk result (λ found. IfSome found (λ v. Gives (row (NodeRequest node scope.now)) (world_of (nodes_of tree.now) supply state.now) v)) }
+    ensures is { (supply : ℕ → ℕ) → IfOk result (λ found. found ≡ at_hand (slice_get (nodes_of tree.now) node.0) scope.now (world_of (nodes_of tree.now) supply state.now)) }
     ensures closed { IsClosed (nodes_of tree.now) state.now → ScopeFits (nodes_of tree.now) state.now.heap.cells scope.now → MatchResult result (λ found. OptionOver (ValueFits state.now.heap.cells) found) (λ fault. fault ≡ StepFault.Memory) }
 {
     match node_at(tree, node) {
-        Some(here) => value_at_hand(state, here, node, scope),
+        Some(here) => value_at_hand(state, here, scope),
         None => Ok(None),
     }
 }
 
-/// Evaluates a node whose value is at hand: takes its step, and gives the value, or ends the world's run where no step is
-/// left. For any other node nothing is done. The cost is that of `value_at_hand`.
+/// Evaluates a node whose value is at hand, which are literals, `this`, and names whose innermost binding is ready: takes
+/// its step, and gives the value, or ends the world's run where no step is left. For any other node nothing is done.
+///
+/// The cost for a name is linear in the environments around it and their bindings, and in the chain of the global object's
+/// prototypes where none binds it; a string is shared, not copied.
 ///
 /// # Errors
-/// Those of `value_at_hand`.
+/// `Memory` where there is none; `Dangling` where the global object stands nowhere, which is never in a closed state.
 pub fn take_value(
     state: &mut State,
     tree: &Tree,
     node: NodeId,
     scope: &Scope,
 ) -> Result<Taken, StepFault>
+    ensures is { (supply : ℕ → ℕ) → IfOk result (λ taken. TakesGiven (at_hand (slice_get (nodes_of tree.now) node.0) scope.now (world_of (nodes_of tree.now) supply state.old)) state.old state.new taken) }
     ensures does { IfOk result (λ taken. Takes (nodes_of tree.now) node scope.now state.old state.new taken) }
     ensures closed { IsClosed (nodes_of tree.now) state.old → ScopeFits (nodes_of tree.now) state.old.heap.cells scope.now → LastsWith TakenFits (nodes_of tree.now) state.old state.new result }
 {
@@ -79,45 +82,36 @@ pub fn take_value(
     }
 }
 
-// The value of a node that is a name, where it has a binding that is ready.
-fn name_value(state: &State, here: &Node, env: Loc) -> Result<Option<Value>, StepFault>
-    ensures is { (nodes : List kind.Node) (node : ids.NodeId) → slice_get nodes node.0 ≡ Some here.now → IfOk result (λ found. IfSome found (λ v. Names nodes node env state.now v)) }
-    ensures closed { (nodes : List kind.Node) → IsClosed nodes state.now → MatchResult result (λ found. OptionOver (ValueFits state.now.heap.cells) found) (λ fault. fault ≡ StepFault.Memory) }
-{
-    match here {
-        Node::Name(name) => bound(state, env, name),
-        _ => Ok(None),
-    }
-}
-
 // The value of the name with a number, where it has a binding that is ready.
+#[tactic(auto, unfolding(crate::specs::AtHand::name_at_hand))]
 fn name_found(
     state: &State,
     tree: &Tree,
     node: NodeId,
     env: Loc,
 ) -> Result<Option<Value>, StepFault>
-    ensures is { IfOk result (λ found. IfSome found (λ v. Names (nodes_of tree.now) node env state.now v)) }
+    ensures is { (supply : ℕ → ℕ) → IfOk result (λ found. found ≡ name_at_hand (slice_get (nodes_of tree.now) node.0) env (world_of (nodes_of tree.now) supply state.now)) }
     ensures closed { IsClosed (nodes_of tree.now) state.now → MatchResult result (λ found. OptionOver (ValueFits state.now.heap.cells) found) (λ fault. fault ≡ StepFault.Memory) }
 {
     match node_at(tree, node) {
-        Some(here) => name_value(state, here, env),
+        Some(here) => name_at_hand(state, here, env),
         None => Ok(None),
     }
 }
 
-/// Reads a name that is the target of an assignment, where it has a binding that is ready: takes the step of its node, and
-/// gives the value, or ends the world's run where no step is left. For any other node nothing is done. The cost is that of
-/// `meaning_of`.
+/// Reads a name that is the target of an assignment, where its innermost binding from an environment on is ready: takes the
+/// step of its node, and gives the value, or ends the world's run where no step is left. For any other node nothing is
+/// done. The cost is that of `take_value`.
 ///
 /// # Errors
-/// Those of `meaning_of`.
+/// Those of `take_value`.
 pub fn take_bound(
     state: &mut State,
     tree: &Tree,
     node: NodeId,
     env: Loc,
 ) -> Result<Taken, StepFault>
+    ensures is { (supply : ℕ → ℕ) → IfOk result (λ taken. TakesGiven (name_at_hand (slice_get (nodes_of tree.now) node.0) env (world_of (nodes_of tree.now) supply state.old)) state.old state.new taken) }
     ensures does { IfOk result (λ taken. TakesBound (nodes_of tree.now) node env state.old state.new taken) }
     ensures closed { IsClosed (nodes_of tree.now) state.old → LastsWith TakenFits (nodes_of tree.now) state.old state.new result }
 {

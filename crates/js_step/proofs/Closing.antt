@@ -2,12 +2,11 @@
 use Rattle.std.proofs.Common.{◌≡◌, ℕ, List, [], ◌∷◌, ◌++◌}
 use Rattle.js_tree.specs.declared.node.Node.{Node}
 use Rattle.world_heap.specs.Over.{ListOver}
-use Rattle.js_names.proofs.Growing.{grows_not}
 use Rattle.js_machine.specs.declared.frame.Frame.{Frame}
 use Rattle.js_machine.specs.declared.state.Control.{Control}
 use Rattle.js_machine.specs.declared.state.Control.TheVariants as controls
 use Rattle.js_machine.specs.declared.state.State.{State}
-use Rattle.js_machine.specs.Closed.{ControlFits, FrameFits, GoesOn, IsClosed}
+use Rattle.js_machine.specs.Closed.{ControlFits, FrameFits, IsClosed}
 use Rattle.js_machine.proofs.Closing.{closed_control}
 
 -- a list without its last member
@@ -38,7 +37,3 @@ at_stop nodes s control closed is = rw is (closed_control nodes s controls.Stop 
 -- and it fits
 pub taken_fits : (nodes : List Node) (s : State) (control : Control ℕ) → IsClosed nodes s → s.control ≡ control → ControlFits nodes s.heap.cells control
 taken_fits nodes s control closed is = rw is at closed.control
-
--- no turn is made yet
-pub goes_nowhere : (nodes : List Node) (s : State) → IsClosed nodes s → GoesOn nodes s s
-goes_nowhere nodes s closed = record { closed = closed; grows = grows_not s.heap.cells }

@@ -1,5 +1,5 @@
 -- Rows of calls, by what is called.
-use Rattle.std.proofs.Common.{◌≡◌, ℕ, List, [], Option, Some, Result, IfOk, refl, sym, ap, ◌∙◌, subst}
+use Rattle.std.proofs.Common.{◌≡◌, ℕ, List, [], Option, Some, Result, IfOk, refl, sym, ap, ◌∙◌}
 use Rattle.std.specs.Prelude.{slice_get}
 use Rattle.js_tree.specs.declared.node.NodeId.{NodeId}
 use Rattle.js_tree.specs.declared.node.Node.{Node}
@@ -13,35 +13,25 @@ use Rattle.js_semantics.specs.Objects.{callee_of, row_call}
 use Rattle.js_machine.specs.declared.frame.CallTarget.TheVariants as targets
 use Rattle.js_machine.specs.declared.state.State.{State}
 use Rattle.js_machine.specs.declared.state.Next.{Next}
-use Rattle.js_machine.specs.Closed.{HasName}
 use Rattle.js_machine.specs.Does.{Does}
 use Rattle.js_machine.specs.Frames.{arguments_rest}
 use Rattle.js_machine.specs.Parts.{items_of, name_of}
 use Rattle.js_machine.proofs.Doing.{does_read_ok}
-use Rattle.js_step_call.specs.declared.called.Called.{Called}
-use Rattle.js_step_call.specs.Called.{CalledFits, call_at, called_in}
+use Rattle.js_step_expr.specs.declared.targets.Target.{Target}
+use Rattle.js_step_expr.specs.Targets.{target_in}
+use Rattle.js_step_call.specs.Called.{call_at}
 
 module _ (nodes : List Node) (node callee : NodeId) (scope : Scope ℕ) where
   -- what a callee is called with
-  call_is : (n : Option Node) → slice_get nodes callee.0 ≡ n → callee_of n callee scope (λ f receiver. arguments_of (items_of (slice_get nodes node.0)) scope (λ vs. call f receiver vs (λ v. give v))) ≡ call_at nodes node callee (called_in n) scope
-  unfolding arguments_of call_at called_in name_of
+  call_is : (n : Option Node) → slice_get nodes callee.0 ≡ n → callee_of n callee scope (λ f receiver. arguments_of (items_of (slice_get nodes node.0)) scope (λ vs. call f receiver vs (λ v. give v))) ≡ call_at nodes node callee (target_in n) scope
+  unfolding arguments_of call_at target_in name_of
   call_is (Some (kinds.Dot object name)) e =
       sym (ap (λ m. step (eval object scope (λ base. get base (name_of m) (λ f. arguments_rest nodes node 0 [] (targets.Call f base) scope)))) e)
   call_is (Some (kinds.Index object key)) e = refl
   call_is other e = refl
 
-  pub row_ok : (called : Called) (old new : State) (r : Result Next StepFault) → called ≡ called_in (slice_get nodes callee.0) → IfOk r (λ next. Does nodes 6 (call_at nodes node callee called scope) old new next) → IfOk r (λ next. Does nodes 6 (row_call callee (items_of (slice_get nodes node.0)) scope) old new next)
+  pub row_ok : (target : Target) (old new : State) (r : Result Next StepFault) → target ≡ target_in (slice_get nodes callee.0) → IfOk r (λ next. Does nodes 6 (call_at nodes node callee target scope) old new next) → IfOk r (λ next. Does nodes 6 (row_call callee (items_of (slice_get nodes node.0)) scope) old new next)
   unfolding row_call
-  row_ok called old new r is =
-      does_read_ok nodes 6 (λ w. callee_of (slice_get w.tree callee.0) callee scope (λ f receiver. arguments_of (items_of (slice_get nodes node.0)) scope (λ vs. call f receiver vs (λ v. give v)))) (call_at nodes node callee called scope) old new r
-      (λ supply. call_is (slice_get nodes callee.0) refl ∙ sym (ap (λ c. call_at nodes node callee c scope) is))
-
--- a callee that is told to be a property with a name has one
-pub called_fits : (nodes : List Node) (callee : NodeId) (called : Called) → called ≡ called_in (slice_get nodes callee.0) → CalledFits nodes callee called
-unfolding called_in
-called_fits nodes callee called is = rw is (named (slice_get nodes callee.0) refl)
-  where
-    named : (n : Option Node) → slice_get nodes callee.0 ≡ n → CalledFits nodes callee (called_in n)
-    named (Some (kinds.Dot object name)) e = subst HasName (sym e) tt
-    named (Some (kinds.Index object key)) e = tt
-    named other e = tt
+  row_ok target old new r is =
+      does_read_ok nodes 6 (λ w. callee_of (slice_get w.tree callee.0) callee scope (λ f receiver. arguments_of (items_of (slice_get nodes node.0)) scope (λ vs. call f receiver vs (λ v. give v)))) (call_at nodes node callee target scope) old new r
+      (λ supply. call_is (slice_get nodes callee.0) refl ∙ sym (ap (λ t. call_at nodes node callee t scope) is))

@@ -4,7 +4,7 @@
 //! stands nowhere, to which no script comes.
 #![tactic(auto)]
 
-mod called;
+mod leading;
 mod rests;
 mod rows;
 

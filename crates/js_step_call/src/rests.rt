@@ -6,18 +6,19 @@ ghost use Rattle.js_machine.specs.Does.{Does};
 ghost use Rattle.js_machine.specs.Frames.{after_rest, arguments_rest, call_rest};
 ghost use Rattle.js_machine.specs.declared.frame.Frame.TheVariants as frames;
 ghost use Rattle.js_machine.specs.declared.frame.ValueFrame.TheVariants as values;
-ghost use Rattle.js_iterate.specs.Closed.{PendingFits, TargetFits};
+ghost use Rattle.js_iterate.specs.Closed.{PendingFits, CallTargetFits};
 
+use crate::leading::{Leading, leading_arguments};
 use js_calls::{parameter_bound, parameter_default, rest_bound};
 use js_iterate::{Pending, argument_value, arguments_from, spread_value};
 use js_machine::{AfterFrame, CallFrame, CallTarget, Next, State, discard};
 use js_semantics::{Scope, StepFault};
 use js_tree::{NodeId, Tree};
-use sqlite_items::Items;
 use world_heap::Value;
 
-// The arguments of a node from the first on, and then what they are for.
-fn all_arguments(
+/// The arguments of a node from the first on, and then what they are for. Those before the first whose value isn't at hand
+/// are evaluated in place.
+pub(crate) fn all_arguments(
     state: &mut State,
     tree: &Tree,
     node: NodeId,
@@ -26,15 +27,25 @@ fn all_arguments(
 ) -> Result<Next, StepFault>
     ensures some { IfOk result (λ next. Does (nodes_of tree.now) 4 (arguments_rest (nodes_of tree.now) node 0 [] target scope) state.old state.new next) }
     ensures many { IfOk result (λ next. Does (nodes_of tree.now) 6 (arguments_rest (nodes_of tree.now) node 0 [] target scope) state.old state.new next) }
-    ensures closed { IsClosed (nodes_of tree.now) state.old → TargetFits (nodes_of tree.now) state.old.heap.cells target → ScopeFits (nodes_of tree.now) state.old.heap.cells scope → Lasts (nodes_of tree.now) state.old state.new result }
+    ensures closed { IsClosed (nodes_of tree.now) state.old → CallTargetFits (nodes_of tree.now) state.old.heap.cells target → ScopeFits (nodes_of tree.now) state.old.heap.cells scope → Lasts (nodes_of tree.now) state.old state.new result }
 {
-    let pending = Pending {
-        node,
-        next: 0,
-        before: Items::new(state.alloc),
-        target,
-    };
-    arguments_from(state, tree, pending, scope)
+    let leading = leading_arguments(state, tree, node, &scope)?;
+    match leading {
+        Leading::Values { next, before } => {
+            let pending = Pending {
+                node,
+                next,
+                before,
+                target,
+            };
+            arguments_from(state, tree, pending, scope)
+        }
+        Leading::Ended(ended) => {
+            discard(target);
+            discard(scope);
+            Ok(ended)
+        }
+    }
 }
 
 // The value of an argument, or of the list of a spread.

@@ -9,15 +9,9 @@ use Rattle.js_tree.specs.declared.node.Node.{Node}
 use Rattle.js_tree.specs.declared.node.Node.TheVariants as kinds
 use Rattle.js_semantics.specs.World.{World, cell_at}
 use Rattle.js_semantics.specs.Properties.{is_symbol, object_of}
-use Rattle.js_names.proofs.Growing.{grows_not}
-use Rattle.js_machine.specs.declared.state.State.{State}
-use Rattle.js_machine.specs.Closed.{GoesOn, HasName, IsClosed, IsNamed, ValueFits}
+use Rattle.js_machine.specs.Closed.{HasName, IsNamed, ValueFits}
 use Rattle.js_step_expr.specs.declared.targets.Target.TheVariants.{Name, Dot}
 use Rattle.js_step_expr.specs.Targets.{target_in}
-
--- a state that stays what it is goes on
-pub stays_closed : (nodes : List Node) (s : State) → IsClosed nodes s → GoesOn nodes s s
-stays_closed nodes s closed = record { closed = closed; grows = grows_not s.heap.cells }
 
 name_has : (n : Option Node) → Name ≡ target_in n → HasName n
 unfolding target_in

@@ -33,7 +33,7 @@ pub use references::{
     row_assign, row_assign_with, row_delete, row_dot, row_index, row_name, row_typeof, row_update,
 };
 pub use settling::{finish, make_text, settle};
-pub use targets::Target;
+pub use targets::{Target, target_of};
 pub use template::{row_template, template_part};
 pub use types::{delete_value, give_type, row_delete_value, row_typeof_value, typeof_value};
 pub use unary::{row_unary, unary_operand};

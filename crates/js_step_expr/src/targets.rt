@@ -34,9 +34,9 @@ fn target_in(node: &Node) -> Target
     }
 }
 
-/// What the node with a number is as a reference.
+/// What the node with a number is as a reference (ECMA-262, 6.2.5). The cost is constant.
 #[tactic(auto, unfolding(crate::specs::Targets::target_in))]
-pub(crate) fn target_of(tree: &Tree, node: NodeId) -> Target
+pub fn target_of(tree: &Tree, node: NodeId) -> Target
     ensures { result ≡ target_in (slice_get (nodes_of tree.now) node.0) }
 {
     match node_at(tree, node) {

@@ -14,7 +14,7 @@ use Rattle.world_heap.specs.declared.builtin.BuiltIn.{BuiltIn}
 use Rattle.world_heap.specs.declared.builtin.BuiltIn.TheVariants.{ArrayPrototype, FunctionPrototype}
 use Rattle.world_heap.specs.declared.limits.HeapFault.{HeapFault}
 use Rattle.world_heap.specs.Maps.{find, put}
-use Rattle.world_heap.specs.Table.{found_under, put_under}
+use Rattle.world_heap.specs.Table.{put_under}
 use Rattle.world_heap.specs.Bodies.{body_of, with_body}
 use Rattle.world_heap.specs.Over.{BodyOver, ListOver, OptionOver, PropertyOver, ValueOver}
 use Rattle.world_heap.specs.Heaps.{is_env, Fits, IsCell, IsNoEnv, IsWell, IsWithin}
@@ -22,6 +22,7 @@ use Rattle.world_heap.specs.Views.{HeapView}
 use Rattle.world_heap.proofs.Bodying.{alike_body, body_fits, fits_body, has_cell}
 use Rattle.world_heap.proofs.Wells.{fits_found, list_push}
 use Rattle.proto_props.specs.declared.outcome.SetDone.{SetDone}
+use Rattle.proto_props.proofs.Fitting.{over_found}
 use Rattle.proto_props.specs.Adds.{IsOpenArray, with_property}
 use Rattle.proto_props.specs.Changes.{Extending, Rewriting}
 use Rattle.world_log.specs.declared.entry.Stop.{Stop}
@@ -160,17 +161,9 @@ made_open nodes items old new got loc made is =
     (built_in ArrayPrototype (world_of nodes (λ n. n) old), items, made_found (array_cell nodes old items) old new loc one)
 
 -- What stands under a key of an object fits, where the heap is well.
-found_over : {V : Type 0} (P : V → Type 0) (entries : List (List ℕ × V)) (key : List ℕ) → ListOver (λ m. P m.1) entries → OptionOver P (found_under entries key)
-found_over P [] key h = tt
-found_over P (e ∷ entries) key h =
-    elim (pointwise nat_eq key e.0) as (λ t. OptionOver P (if t then Some e.1 else found_under entries key)) [
-      | true ↦ h.0
-      | false ↦ found_over P entries key h.1
-    ]
-
 under_fits : (P : ℕ → Type 0) (o : Option (Body ℕ)) (key : List ℕ) → OptionOver (BodyOver P) o → OptionOver (PropertyOver P) (under_key o key)
 under_fits P None key h = tt
-under_fits P (Some b) key h = found_over (PropertyOver P) b.properties key h.1
+under_fits P (Some b) key h = over_found (PropertyOver P) b.properties key h.1
 
 body_over : (cells : List (ℕ × Cell ℕ)) (loc : ℕ) → IsWell nat_eq cells → (o : Option (Cell ℕ)) → find nat_eq cells loc ≡ o → OptionOver (BodyOver (IsNoEnv nat_eq cells)) (option_and_then body_of o)
 body_over cells loc well None found = tt

@@ -1,5 +1,5 @@
 -- What a statement reads and makes in a closed state fits its heap.
-use Rattle.std.proofs.Common.{◌≡◌, ℕ, zero, suc, List, [], ◌∷◌, ◌++◌, map, slice_get, Bool, true, false, Option, Some, None, Result, Ok, Err, nat_eq, refl}
+use Rattle.std.proofs.Common.{◌≡◌, ℕ, zero, suc, List, [], ◌∷◌, map, slice_get, Bool, true, false, Option, Some, None, Result, Ok, Err, nat_eq, refl}
 use Rattle.std.specs.List.{flat_map}
 use Rattle.js_tree.specs.declared.node.NodeId.{NodeId}
 use Rattle.js_tree.specs.declared.node.Node.{Node}
@@ -20,15 +20,11 @@ use Rattle.js_semantics.specs.Iteration.{items_at}
 use Rattle.js_machine.specs.declared.state.State.{State}
 use Rattle.js_machine.specs.Closed.{GoesOn, IsClosed, ScopeFits, ValueFits}
 use Rattle.js_machine.specs.Does.{Allocates}
-use Rattle.js_machine.proofs.Closing.{closed_made, closed_stopped, made_cell, value_grown}
+use Rattle.js_machine.proofs.Closing.{closed_made, closed_stopped, list_append, made_cell, value_grown}
 use Rattle.js_semantics.specs.Statements.{inside, item_or_undefined}
 use Rattle.js_step_stmt.specs.Fitting.{BindingsFit}
 
 module _ (cells : List (ℕ × Cell ℕ)) where
-  append_fits : (xs ys : List (Binding ℕ)) → BindingsFit cells xs → BindingsFit cells ys → BindingsFit cells (xs ++ ys)
-  append_fits [] ys h k = k
-  append_fits (x ∷ xs) ys h k = (h.0, append_fits xs ys h.1 k)
-
   -- bindings that aren't ready
   pub names_fit : (fixed : Bool) (names : List (List ℕ)) → BindingsFit cells (map (unready fixed) names)
   names_fit fixed [] = tt
@@ -40,9 +36,10 @@ module _ (cells : List (ℕ × Cell ℕ)) where
   pairs_fit : (fixed : Bool) (nodes : List Node) (pairs : List Declarator) → BindingsFit cells (flat_map (λ pair. map (unready fixed) (names_of nodes pair.bind)) pairs)
   pairs_fit fixed nodes [] = tt
   pairs_fit fixed nodes (pair ∷ pairs) =
-      append_fits (map (unready fixed) (names_of nodes pair.bind)) (flat_map (λ p. map (unready fixed) (names_of nodes p.bind)) pairs) (names_fit fixed (names_of nodes pair.bind)) (pairs_fit fixed nodes pairs)
+      list_append (λ (b : Binding ℕ). OptionOver (ValueFits cells) b.value) (map (unready fixed) (names_of nodes pair.bind)) (flat_map (λ p. map (unready fixed) (names_of nodes p.bind)) pairs) (names_fit fixed (names_of nodes pair.bind)) (pairs_fit fixed nodes pairs)
 
-  by_fit : (nodes : List Node) (node : Option Node) → BindingsFit cells (declared_by nodes node)
+  -- the bindings that a node declares (ECMA-262, 8.2.5)
+  pub by_fit : (nodes : List Node) (node : Option Node) → BindingsFit cells (declared_by nodes node)
   by_fit nodes (Some (kinds.Let pairs)) = pairs_fit false nodes pairs
   by_fit nodes (Some (kinds.Const pairs)) = pairs_fit true nodes pairs
   by_fit nodes (Some (kinds.FunDecl name function)) = (tt, tt)
@@ -50,7 +47,7 @@ module _ (cells : List (ℕ × Cell ℕ)) where
 
   pub declared_fit : (nodes : List Node) (first : NodeId) (bindings : List (Binding ℕ)) → bindings ≡ declared_in nodes (first ∷ []) → BindingsFit cells bindings
   unfolding declared_in
-  declared_fit nodes first bindings is = rw is (append_fits (declared_by nodes (slice_get nodes first.0)) [] (by_fit nodes (slice_get nodes first.0)) tt)
+  declared_fit nodes first bindings is = rw is (list_append (λ (b : Binding ℕ). OptionOver (ValueFits cells) b.value) (declared_by nodes (slice_get nodes first.0)) [] (by_fit nodes (slice_get nodes first.0)) tt)
 
   at_fits : (vs : List (Value ℕ)) (place : ℕ) → ListOver (ValueFits cells) vs → OptionOver (ValueFits cells) (slice_get vs place)
   at_fits [] place h = tt

@@ -4,7 +4,8 @@ use Rattle.js_machine.specs.Frames.{arguments_rest}
 use Rattle.js_iterate.proofs.Walks.{does_items}
 use Rattle.std.proofs.lemmas.Result.{err_from_is_err_and}
 use Rattle.js_machine.specs.Closed.{ValueFits}
-use Rattle.js_iterate.proofs.Lasting.{append_fits, items_fit}
+use Rattle.js_machine.proofs.Closing.{list_append}
+use Rattle.js_iterate.proofs.Lasting.{items_fit}
 use Rattle.js_iterate.proofs.arguments.spread_items.Goals as goal
 
 pub returns-clause-does : goal.returns-clause-does
@@ -22,4 +23,4 @@ returns-in_err-pending-clause-closed c closed pending scope =
 pub returns-clause-closed : goal.returns-clause-closed
 returns-clause-closed c closed pending scope =
     let more = items_fit c.args.state.now.heap.cells closed.well c.args.array c.in_ok-items.items c.in_ok-items.ensures in
-    c.arguments_from.ensures.closed closed (rw c.in_ok-pending.ensures (append_fits (ValueFits c.args.state.now.heap.cells) c.args.pending.before c.in_ok-items.items pending.0 more, pending.1)) scope
+    c.arguments_from.ensures.closed closed (rw c.in_ok-pending.ensures (list_append (ValueFits c.args.state.now.heap.cells) c.args.pending.before c.in_ok-items.items pending.0 more, pending.1)) scope

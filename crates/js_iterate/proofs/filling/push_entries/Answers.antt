@@ -5,8 +5,8 @@ use Rattle.js_semantics.specs.Iteration.{push_entries, push_item}
 use Rattle.js_machine.proofs.Lists.{drop_none}
 use Rattle.js_iterate.proofs.Turns.{entries_turn, turn_more, turn_ended, turns_done}
 use Rattle.std.proofs.lemmas.Result.{err_from_is_err_and}
-use Rattle.js_iterate.proofs.Lasting.{entry_at, still}
-use Rattle.js_machine.proofs.Closing.{goes_on}
+use Rattle.js_iterate.proofs.Lasting.{entry_at}
+use Rattle.js_machine.proofs.Closing.{goes_on, stays_closed}
 use Rattle.js_machine.proofs.Doing.{moves_still}
 use Rattle.js_iterate.proofs.filling.push_entries.Goals as goal
 
@@ -28,7 +28,7 @@ returns-clause-does c nodes =
 
 pub entries-init : goal.entries-init
 entries-init c =
-    (λ nodes p. moves_still nodes (push_entries c.args.array c.args.entries.now p) c.args.state.now, λ nodes closed unfrozen fit. still nodes c.args.state.now closed)
+    (λ nodes p. moves_still nodes (push_entries c.args.array c.args.entries.now p) c.args.state.now, λ nodes closed unfrozen fit. stays_closed nodes c.args.state.now closed)
 
 pub returns-in_err-next-clause-closed : goal.returns-in_err-next-clause-closed
 returns-in_err-next-clause-closed c nodes closed unfrozen fit =

@@ -3,8 +3,7 @@ use Rattle.js_semantics.specs.Prog.{make_text}
 use Rattle.js_semantics.specs.Iteration.{points_of, push_item, push_texts}
 use Rattle.js_iterate.proofs.Turns.{points_past, points_turn, turn_more, turn_ended, turns_done}
 use Rattle.std.proofs.lemmas.Result.{err_from_is_err_and}
-use Rattle.js_iterate.proofs.Lasting.{still}
-use Rattle.js_machine.proofs.Closing.{goes_on}
+use Rattle.js_machine.proofs.Closing.{goes_on, stays_closed}
 use Rattle.js_machine.proofs.Doing.{moves_still}
 use Rattle.js_iterate.proofs.filling.push_points.Goals as goal
 
@@ -26,7 +25,7 @@ returns-clause-does c nodes =
 
 pub points-init : goal.points-init
 points-init c =
-    (λ nodes p. moves_still nodes (push_texts c.args.array (points_of c.args.text.now) p) c.args.state.now, λ nodes closed unfrozen. still nodes c.args.state.now closed)
+    (λ nodes p. moves_still nodes (push_texts c.args.array (points_of c.args.text.now) p) c.args.state.now, λ nodes closed unfrozen. stays_closed nodes c.args.state.now closed)
 
 pub returns-in_err-point-clause-closed : goal.returns-in_err-point-clause-closed
 returns-in_err-point-clause-closed c nodes closed unfrozen =

@@ -3,8 +3,8 @@ use Rattle.js_semantics.specs.Iteration.{push_item, push_items}
 use Rattle.js_machine.proofs.Lists.{drop_none}
 use Rattle.js_iterate.proofs.Turns.{items_turn, turn_more, turn_ended, turns_done}
 use Rattle.std.proofs.lemmas.Result.{err_from_is_err_and}
-use Rattle.js_iterate.proofs.Lasting.{still, value_at}
-use Rattle.js_machine.proofs.Closing.{goes_on}
+use Rattle.js_iterate.proofs.Lasting.{value_at}
+use Rattle.js_machine.proofs.Closing.{goes_on, stays_closed}
 use Rattle.js_machine.proofs.Doing.{moves_still}
 use Rattle.js_iterate.proofs.filling.push_values.Goals as goal
 
@@ -26,7 +26,7 @@ returns-clause-does c nodes =
 
 pub values-init : goal.values-init
 values-init c =
-    (λ nodes p. moves_still nodes (push_items c.args.array c.args.values.now p) c.args.state.now, λ nodes closed unfrozen fit. still nodes c.args.state.now closed)
+    (λ nodes p. moves_still nodes (push_items c.args.array c.args.values.now p) c.args.state.now, λ nodes closed unfrozen fit. stays_closed nodes c.args.state.now closed)
 
 pub returns-in_err-value-clause-closed : goal.returns-in_err-value-clause-closed
 returns-in_err-value-clause-closed c nodes closed unfrozen fit =

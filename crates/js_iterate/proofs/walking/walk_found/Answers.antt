@@ -1,5 +1,5 @@
 use Rattle.js_iterate.proofs.Walks.{found_values, found_entries, found_nothing}
-use Rattle.js_iterate.proofs.Lasting.{still}
+use Rattle.js_machine.proofs.Closing.{stays_closed}
 use Rattle.js_iterate.proofs.walking.walk_found.Goals as goal
 
 pub returns-in-Values-clause-does : goal.returns-in-Values-clause-does
@@ -13,7 +13,7 @@ returns-in-Nothing-clause-does c nodes = found_nothing nodes c.args.loc c.args.f
 
 pub returns-in-Itself-clause-closed : goal.returns-in-Itself-clause-closed
 returns-in-Itself-clause-closed c nodes closed fit stands =
-    (still nodes c.args.state.now closed, stands)
+    (stays_closed nodes c.args.state.now closed, stands)
 
 pub returns-in-Values-clause-closed : goal.returns-in-Values-clause-closed
 returns-in-Values-clause-closed c nodes closed fit stands =

@@ -1,44 +1,34 @@
 use Rattle.std.proofs.Common.{refl}
 use Rattle.std.specs.Prelude.{Some}
 use Rattle.world_heap.specs.declared.value.Value.TheVariants.{Str}
-use Rattle.js_semantics.specs.declared.fault.Fault.TheVariants.{NotDefined}
-use Rattle.js_semantics.specs.Prog.{give, throw}
-use Rattle.js_semantics.specs.Expressions.{row_name, row_this}
-use Rattle.js_semantics.specs.Rows.{row_of}
-use Rattle.js_machine.specs.Does.{world_of}
-use Rattle.js_primary.specs.Giving.{Gives}
+use Rattle.js_primary.specs.AtHand.{at_hand}
 use Rattle.js_primary.proofs.Numbers.{literal_fits}
 use Rattle.js_primary.proofs.Evaluating.{known_fits, known_ok}
 use Rattle.js_primary.proofs.at_hand.value_at_hand.Goals as goal
 
 pub returns-in-Name-clause-is : goal.returns-in-Name-clause-is
-unfolding row_of row_name
-returns-in-Name-clause-is c nodes supply = rw c.in-Name.is (c.bound.ensures.is nodes supply (throw NotDefined) (λ v. give v))
+unfolding at_hand
+returns-in-Name-clause-is c nodes supply = rw c.in-Name.is (c.bound.ensures.is nodes supply)
 
 pub returns-in-Num-clause-is : goal.returns-in-Num-clause-is
-unfolding row_of
-returns-in-Num-clause-is c nodes supply = rw (c.in-Num.is, c.number_value.ensures) (λ ds b k. refl)
+unfolding at_hand
+returns-in-Num-clause-is c nodes supply = rw (c.in-Num.is, c.number_value.ensures) refl
 
 pub returns-in-Str-clause-is : goal.returns-in-Str-clause-is
-unfolding row_of
-returns-in-Str-clause-is c nodes supply =
-    let w = world_of nodes supply c.args.state.now in
-    rw c.in-Str.is (known_ok (λ v. Gives (give (Str c.in-Str.text)) w v) (Some (Str c.in-Str.text)) c.text_value.result (λ ds b k. refl) c.text_value.ensures)
+unfolding at_hand
+returns-in-Str-clause-is c nodes supply = rw c.in-Str.is (known_ok (Some (Str c.in-Str.text)) _ c.text_value.result refl c.text_value.ensures)
 
 pub returns-in-Bool-clause-is : goal.returns-in-Bool-clause-is
-unfolding row_of
-returns-in-Bool-clause-is c nodes supply = rw c.in-Bool.is (λ ds b k. refl)
+unfolding at_hand
+returns-in-Bool-clause-is c nodes supply = rw c.in-Bool.is refl
 
 pub returns-in-Null-clause-is : goal.returns-in-Null-clause-is
-unfolding row_of
-returns-in-Null-clause-is c nodes supply = rw c.in-Null.is (λ ds b k. refl)
+unfolding at_hand
+returns-in-Null-clause-is c nodes supply = rw c.in-Null.is refl
 
 pub returns-in-This-clause-is : goal.returns-in-This-clause-is
-unfolding row_of row_this
-returns-in-This-clause-is c nodes supply =
-    let w = world_of nodes supply c.args.state.now in
-    let receiver = c.args.scope.now.receiver in
-    rw c.in-This.is (known_ok (λ v. Gives (give receiver) w v) (Some receiver) c.copied.result (λ ds b k. refl) c.copied.ensures)
+unfolding at_hand
+returns-in-This-clause-is c nodes supply = rw c.in-This.is (known_ok (Some c.args.scope.now.receiver) _ c.copied.result refl c.copied.ensures)
 
 pub returns-in-Name-clause-closed : goal.returns-in-Name-clause-closed
 returns-in-Name-clause-closed c nodes closed scope = c.bound.ensures.closed nodes closed

@@ -2,7 +2,7 @@ use Rattle.js_names.specs.Patterns.{nodes_of}
 use Rattle.js_primary.proofs.taking.name_found.Goals as goal
 
 pub returns-in-Some-clause-is : goal.returns-in-Some-clause-is
-returns-in-Some-clause-is c = c.name_value.ensures.is (nodes_of c.args.tree.now) c.args.node c.in-Some.ensures
+returns-in-Some-clause-is c supply = rw c.in-Some.ensures (c.name_at_hand.ensures.is (nodes_of c.args.tree.now) supply)
 
 pub returns-in-Some-clause-closed : goal.returns-in-Some-clause-closed
-returns-in-Some-clause-closed c closed = c.name_value.ensures.closed (nodes_of c.args.tree.now) closed
+returns-in-Some-clause-closed c closed = c.name_at_hand.ensures.closed (nodes_of c.args.tree.now) closed

@@ -1,12 +1,22 @@
+use Rattle.std.proofs.Common.{refl, sym}
 use Rattle.std.proofs.lemmas.Result.{err_from_is_err_and}
 use Rattle.js_names.specs.Patterns.{nodes_of}
-use Rattle.js_step_expr.proofs.Fitted.{stays_closed}
-use Rattle.js_primary.proofs.Evaluating.{value_taken}
+use Rattle.js_machine.proofs.Closing.{stays_closed}
+use Rattle.js_primary.proofs.Evaluating.{node_gives, value_taken}
 use Rattle.js_primary.proofs.taking.take_value.Goals as goal
+
+pub returns-in-Some-clause-is : goal.returns-in-Some-clause-is
+returns-in-Some-clause-is c supply = rw (sym (rw c.in-Some.is at (c.in_ok-value.ensures.is supply))) c.step_to.ensures.does
+
+pub returns-in-None-clause-is : goal.returns-in-None-clause-is
+returns-in-None-clause-is c supply = rw (sym (rw c.in-None.is at (c.in_ok-value.ensures.is supply))) (refl, refl)
 
 pub returns-in-Some-clause-does : goal.returns-in-Some-clause-does
 returns-in-Some-clause-does c =
-    value_taken (nodes_of c.args.tree.now) c.args.node c.args.scope.now c.in-Some.value c.args.state.now c.step_to.new.state c.step_to.result (λ supply. rw c.in-Some.is at (c.in_ok-value.ensures.is supply)) c.step_to.ensures.does
+    let nodes = nodes_of c.args.tree.now in
+    let state = c.args.state.now in
+    value_taken nodes c.args.node c.args.scope.now c.in-Some.value state c.step_to.new.state c.step_to.result
+    (λ supply. node_gives nodes c.args.node c.args.scope.now supply state c.in-Some.value (sym (rw c.in-Some.is at (c.in_ok-value.ensures.is supply)))) c.step_to.ensures.does
 
 pub returns-in_err-value-clause-closed : goal.returns-in_err-value-clause-closed
 returns-in_err-value-clause-closed c closed scope =

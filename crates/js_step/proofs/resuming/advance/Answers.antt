@@ -2,13 +2,12 @@ use Rattle.std.proofs.Common.{[], arith, sym, ◌∙◌}
 use Rattle.std.proofs.lemmas.Result.{err_from_is_err_and}
 use Rattle.js_names.specs.Patterns.{nodes_of}
 use Rattle.js_machine.specs.declared.state.Next.TheVariants.{Go}
-use Rattle.js_machine.proofs.Closing.{goes_on}
-use Rattle.js_step.proofs.Closing.{goes_nowhere}
+use Rattle.js_machine.proofs.Closing.{goes_on, stays_closed}
 use Rattle.js_step.proofs.Turns.{makes_more, makes_none, next_made}
 use Rattle.js_step.proofs.resuming.advance.Goals as goal
 
 pub silent-init : goal.silent-init
-silent-init c = record { makes = makes_none (nodes_of c.args.tree.now) _; less = omega arith; closed = λ closed. goes_nowhere (nodes_of c.args.tree.now) c.args.state.now closed }
+silent-init c = record { makes = makes_none (nodes_of c.args.tree.now) _; less = omega arith; closed = λ closed. stays_closed (nodes_of c.args.tree.now) c.args.state.now closed }
 
 pub silent-preserved : goal.silent-preserved
 silent-preserved c =

@@ -1,13 +1,12 @@
 use Rattle.std.proofs.Common.{sym, ◌∙◌}
 use Rattle.std.proofs.lemmas.Result.{err_from_is_err_and}
 use Rattle.js_names.specs.Patterns.{nodes_of}
-use Rattle.js_machine.proofs.Closing.{goes_on as both}
-use Rattle.js_step.proofs.Closing.{goes_nowhere}
+use Rattle.js_machine.proofs.Closing.{goes_on as both, stays_closed}
 use Rattle.js_step.proofs.Turns.{begins, comes_to_rest, goes_on}
 use Rattle.js_step.proofs.resuming.resume.Goals as goal
 
 pub turns-init : goal.turns-init
-turns-init c = record { makes = begins (nodes_of c.args.tree.now) _ _; closed = λ closed. goes_nowhere (nodes_of c.args.tree.now) c.receive.new.self closed }
+turns-init c = record { makes = begins (nodes_of c.args.tree.now) _ _; closed = λ closed. stays_closed (nodes_of c.args.tree.now) c.receive.new.self closed }
 
 pub turns-preserved : goal.turns-preserved
 turns-preserved c =

@@ -7,7 +7,7 @@ use Rattle.js_semantics.specs.Statements.{fill_functions}
 use Rattle.js_machine.proofs.Doing.{moves_still}
 use Rattle.js_names.proofs.Growing.{cell_grown}
 use Rattle.js_machine.proofs.Closing.{goes_on}
-use Rattle.js_step_block.proofs.Lasting.{goes_not}
+use Rattle.js_machine.proofs.Closing.{stays_closed}
 use Rattle.js_step_block.proofs.filling.fill_functions.Goals as goal
 
 pub returns-in-Some-clause-does : goal.returns-in-Some-clause-does
@@ -16,7 +16,7 @@ returns-in-Some-clause-does c = fill_ended (nodes_of c.args.tree.now) c.args.env
 pub items-init : goal.items-init
 items-init c = record {
   does = λ p. moves_still (nodes_of c.args.tree.now) (fill_functions c.args.items.now c.args.env p) c.args.state.now;
-  closed = λ closed env. goes_not (nodes_of c.args.tree.now) c.args.state.now closed;
+  closed = λ closed env. stays_closed (nodes_of c.args.tree.now) c.args.state.now closed;
 }
 
 pub items-preserved : goal.items-preserved

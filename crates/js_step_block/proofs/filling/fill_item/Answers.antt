@@ -1,6 +1,6 @@
 use Rattle.js_names.specs.Patterns.{nodes_of}
 use Rattle.js_machine.proofs.Doing.{moves_still}
-use Rattle.js_step_block.proofs.Lasting.{goes_not}
+use Rattle.js_machine.proofs.Closing.{stays_closed}
 use Rattle.js_step_block.proofs.filling.fill_item.Goals as goal
 
 pub returns-in-Some-clause-does : goal.returns-in-Some-clause-does
@@ -13,4 +13,4 @@ pub returns-in-Some-clause-closed : goal.returns-in-Some-clause-closed
 returns-in-Some-clause-closed c closed env = c.fill_node.ensures.closed (nodes_of c.args.tree.now) closed env
 
 pub returns-in-None-clause-closed : goal.returns-in-None-clause-closed
-returns-in-None-clause-closed c closed env = goes_not (nodes_of c.args.tree.now) c.args.state.now closed
+returns-in-None-clause-closed c closed env = stays_closed (nodes_of c.args.tree.now) c.args.state.now closed

@@ -1,5 +1,5 @@
 use Rattle.js_step_block.proofs.Made.{fill_other}
-use Rattle.js_step_block.proofs.Lasting.{goes_not}
+use Rattle.js_machine.proofs.Closing.{stays_closed}
 use Rattle.js_step_block.proofs.filling.fill_node.Goals as goal
 
 pub returns-in-FunDecl-clause-does : goal.returns-in-FunDecl-clause-does
@@ -12,4 +12,4 @@ pub returns-in-FunDecl-clause-closed : goal.returns-in-FunDecl-clause-closed
 returns-in-FunDecl-clause-closed c nodes closed env = c.fill_declared.ensures.closed nodes closed env
 
 pub returns-in_default-clause-closed : goal.returns-in_default-clause-closed
-returns-in_default-clause-closed c nodes closed env = goes_not nodes c.args.state.now closed
+returns-in_default-clause-closed c nodes closed env = stays_closed nodes c.args.state.now closed

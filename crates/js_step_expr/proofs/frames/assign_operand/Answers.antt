@@ -1,7 +1,7 @@
 use Rattle.js_semantics.specs.Prog.{give}
 use Rattle.js_machine.specs.Frames.{write_place}
 use Rattle.js_step_expr.proofs.Applied.{moves_instance}
-use Rattle.js_step_expr.proofs.Fitted.{stays_closed}
+use Rattle.js_machine.proofs.Closing.{stays_closed}
 use Rattle.js_step_expr.proofs.frames.assign_operand.Goals as goal
 
 pub returns-in-InstanceOf-clause-does : goal.returns-in-InstanceOf-clause-does

@@ -1,6 +1,6 @@
 use Rattle.js_semantics.specs.Prog.{give}
 use Rattle.js_step_expr.proofs.Applied.{moves_instance}
-use Rattle.js_step_expr.proofs.Fitted.{stays_closed}
+use Rattle.js_machine.proofs.Closing.{stays_closed}
 use Rattle.std.proofs.lemmas.Result.{err_from_is_err_and}
 use Rattle.js_step_expr.proofs.frames.both_operands.Goals as goal
 

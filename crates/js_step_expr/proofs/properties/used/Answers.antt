@@ -1,6 +1,6 @@
 use Rattle.js_step_expr.proofs.Applied.{moves_nowhere}
 use Rattle.std.proofs.lemmas.Result.{err_from_is_err_and}
-use Rattle.js_step_expr.proofs.Fitted.{stays_closed}
+use Rattle.js_machine.proofs.Closing.{stays_closed}
 use Rattle.js_step_expr.proofs.properties.used.Goals as goal
 
 pub returns-in_ok-enter_operand-in-Assign-clause-does : goal.returns-in_ok-enter_operand-in-Assign-clause-does

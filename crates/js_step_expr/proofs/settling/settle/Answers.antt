@@ -1,6 +1,6 @@
 use Rattle.js_semantics.specs.Expressions.{compute}
 use Rattle.js_step_expr.proofs.Settled.{moves_value}
-use Rattle.js_step_expr.proofs.Fitted.{stays_closed}
+use Rattle.js_machine.proofs.Closing.{stays_closed}
 use Rattle.std.proofs.lemmas.Result.{err_from_is_err_and}
 use Rattle.js_step_expr.proofs.settling.settle.Goals as goal
 
