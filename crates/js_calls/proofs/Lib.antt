@@ -9,3 +9,4 @@ mod Rebinding
 mod Fitting
 mod Stored
 mod Meanings
+mod Placing

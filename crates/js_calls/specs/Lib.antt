@@ -6,3 +6,4 @@ pub mod Writing
 pub mod Naming
 pub mod Assigning
 pub mod Closed
+pub mod InPlace

@@ -12,6 +12,7 @@ ghost use Rattle.js_machine.specs.Frames.{call_rest, parameters_rest};
 ghost use Rattle.js_machine.specs.Parts.{parameters_from, rest_parameter};
 
 use crate::functions::{body_of, parameter_at, rest_parameter};
+use crate::in_place::leading_parameters;
 use js_machine::{
     CallFrame, Frame, Next, State, ValueFrame, copy_scope, copy_values, default_of, stopped,
 };
@@ -54,9 +55,13 @@ fn bind_part(
     )
 }
 
-// The argument at a place; a missing one is undefined.
+/// The argument at a place; a missing one is undefined.
 #[tactic(auto, using(crate::proofs::Defaulted::first_some, crate::proofs::Defaulted::first_none))]
-fn argument_at(alloc: Global, arguments: &Items<Value>, at: usize) -> Result<Value, StepFault>
+pub(crate) fn argument_at(
+    alloc: Global,
+    arguments: &Items<Value>,
+    at: usize,
+) -> Result<Value, StepFault>
     ensures { MatchResult result (λ value. value ≡ first_of (drop at arguments.now)) (λ fault. fault ≡ StepFault.Memory) }
 {
     match arguments.get(at) {
@@ -198,6 +203,28 @@ pub fn parameters(
     match parameter_at(tree, node, at) {
         Some((element, next)) => parameter(state, element, node, at, next, arguments, scope),
         None => last(state, tree, node, at, arguments, scope),
+    }
+}
+
+/// Binds all parameters of a node's function to the arguments, as `parameters` does from the first on; those that are
+/// names, up to one that isn't or whose default is to be evaluated, are bound in place.
+///
+/// # Errors
+/// As those of `parameters`.
+pub(crate) fn all_parameters(
+    state: &mut State,
+    tree: &Tree,
+    node: NodeId,
+    arguments: Items<Value>,
+    scope: Scope,
+) -> Result<Next, StepFault>
+    ensures does { IfOk result (λ next. Does (nodes_of tree.now) 2 (parameters_rest (nodes_of tree.now) node 0 arguments scope) state.old state.new next) }
+    ensures closed { IsClosed (nodes_of tree.now) state.old → ListOver (ValueFits state.old.heap.cells) arguments → ScopeFits (nodes_of tree.now) state.old.heap.cells scope → Lasts (nodes_of tree.now) state.old state.new result }
+{
+    let leading = leading_parameters(state, tree, node, &arguments, &scope)?;
+    match leading {
+        Ok(at) => parameters(state, tree, node, at, arguments, scope),
+        Err(next) => Ok(next),
     }
 }
 

@@ -11,7 +11,7 @@ ghost use Rattle.js_machine.specs.Frames.{after_rest, parameters_rest};
 ghost use Rattle.js_calls.specs.Closed.{CalleeFits, InvocationFits};
 ghost use Rattle.js_calls.specs.Calling.{after_frame, allowance, by_callee, call_frames, ending};
 
-use crate::binding::parameters;
+use crate::binding::all_parameters;
 use crate::callee::{Callee, callee_of};
 use crate::functions::function_at;
 use js_machine::{AfterFrame, Frame, Next, State, discard, stopped};
@@ -63,7 +63,7 @@ fn enter_body(
     ensures closed { IsClosed (nodes_of tree.now) state.old → ListOver (ValueFits state.old.heap.cells) arguments → ScopeFits (nodes_of tree.now) state.old.heap.cells scope → OptionOver (AfterFits (nodes_of tree.now) state.old.heap.cells) frame → Lasts (nodes_of tree.now) state.old state.new result }
 {
     push_call(state, frame)?;
-    parameters(state, tree, node, 0, arguments, scope)
+    all_parameters(state, tree, node, arguments, scope)
 }
 
 // Makes the environment of a call, and enters the body in it.

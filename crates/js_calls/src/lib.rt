@@ -7,6 +7,7 @@ mod callee;
 mod calling;
 mod constructing;
 mod functions;
+mod in_place;
 mod naming;
 mod property;
 mod setting;

@@ -5,7 +5,7 @@ use Rattle.js_calls.proofs.calling.enter_body.Goals as goal
 
 pub returns-clause-does : goal.returns-clause-does
 returns-clause-does c n le =
-    called_ok (nodes_of c.args.tree.now) n _ c.args.state.now c.push_call.new.state c.parameters.new.state c.args.frame c.parameters.result le c.in_ok-push_call.ensures.frames c.in_ok-push_call.ensures.rest c.parameters.ensures.does
+    called_ok (nodes_of c.args.tree.now) n _ c.args.state.now c.push_call.new.state c.all_parameters.new.state c.args.frame c.all_parameters.result le c.in_ok-push_call.ensures.frames c.in_ok-push_call.ensures.rest c.all_parameters.ensures.does
 
 pub returns-in_err-push_call-clause-closed : goal.returns-in_err-push_call-clause-closed
 returns-in_err-push_call-clause-closed c closed arguments scope frame =
