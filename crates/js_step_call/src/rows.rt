@@ -1,4 +1,4 @@
-//! The rows of calls and of `new` (ECMA-262, 13.3.6.1 and 13.3.5.1.1), which enter what is called.
+//! The rows of calls and of `new` (ECMA-262, 13.3.6.1 and 13.3.5.1.1), by what is called.
 ghost use Rattle.std.specs.Prelude.{List, IfOk, slice_get};
 ghost use Rattle.js_tree.specs.declared.node.Node as kind;
 ghost use Rattle.js_tree.specs.declared.node.NodeId.{NodeId};
