@@ -1,5 +1,5 @@
 -- How arguments that are evaluated in place are put together with the call around them.
-use Rattle.std.proofs.Common.{◌≡◌, ℕ, ◌<◌, List, [], ◌∷◌, ◌++◌, drop, Option, Some, None, slice_get, refl, sym, ap, subst, ◌∙◌, arith}
+use Rattle.std.proofs.Common.{◌≡◌, ℕ, ◌-◌, ◌<◌, List, [], ◌∷◌, ◌++◌, drop, Option, Some, None, slice_get, refl, sym, ap, subst, ◌∙◌, arith}
 use Rattle.world_heap.specs.declared.value.Value.{Value}
 use Rattle.js_tree.specs.declared.node.NodeId.{NodeId}
 use Rattle.js_tree.specs.declared.node.Node.{Node}

@@ -13,7 +13,7 @@ use Rattle.js_step_call.proofs.Arguments.{fewer_steps, reaches_ended, reaches_on
 use Rattle.js_step_call.proofs.leading.leading_arguments.Goals as goal
 
 pub leading-init : goal.leading-init
-leading-init c = rw c.new.ensures (record { reaches = λ target. moves_still (nodes_of c.args.tree.now) _ c.args.state.now; closed = λ closed scope. (stays_closed (nodes_of c.args.tree.now) c.args.state.now closed, tt) })
+leading-init c = rw c.new-before.ensures (record { reaches = λ target. moves_still (nodes_of c.args.tree.now) _ c.args.state.now; closed = λ closed scope. (stays_closed (nodes_of c.args.tree.now) c.args.state.now closed, tt) })
 
 pub leading-preserved : goal.leading-preserved
 leading-preserved c =
@@ -21,8 +21,8 @@ leading-preserved c =
     let old = c.leading.state in
     let new = c.take_value.new.state in
     let value = c.in-Value.value in
-    let list : drop c.leading.at (items_of (slice_get nodes c.args.node.0)) ≡ c.in-Some.argument ∷ drop c.in-Some.next (items_of (slice_get nodes c.args.node.0)) = cc (c.items_of.ensures, c.in-Some.ensures.0) in
-    rw c.in_ok-push.ensures.ok (record {
+    let list : drop c.leading.at (items_of (slice_get nodes c.args.node.0)) ≡ c.in-Some.argument ∷ drop c.in-Some.next (items_of (slice_get nodes c.args.node.0)) = cc (c.items_of-list.ensures, c.in-Some.ensures.0) in
+    rw c.in_ok-push-in-Value.ensures.ok (record {
       reaches = reaches_on nodes c.args.node c.args.scope.now c.args.state.now old new c.leading.at c.in-Some.next c.in-Some.argument c.leading.before _ list c.in_ok-value.ensures.is c.in_ok-value.ensures.does c.leading.invariant.reaches value c.in-Value.is;
       closed = λ closed scope.
           let (so, fit) = c.leading.invariant.closed closed scope in
@@ -39,7 +39,7 @@ leading-smaller c =
 pub returns-in-Ended-clause-does : goal.returns-in-Ended-clause-does
 returns-in-Ended-clause-does c =
     let nodes = nodes_of c.args.tree.now in
-    let list : drop c.leading.at (items_of (slice_get nodes c.args.node.0)) ≡ c.in-Some.argument ∷ drop c.in-Some.next (items_of (slice_get nodes c.args.node.0)) = cc (c.items_of.ensures, c.in-Some.ensures.0) in
+    let list : drop c.leading.at (items_of (slice_get nodes c.args.node.0)) ≡ c.in-Some.argument ∷ drop c.in-Some.next (items_of (slice_get nodes c.args.node.0)) = cc (c.items_of-list.ensures, c.in-Some.ensures.0) in
     reaches_ended nodes c.args.node c.args.scope.now c.args.state.now c.leading.state c.take_value.new.state c.leading.at c.in-Some.next c.in-Some.argument c.leading.before _ list c.in_ok-value.ensures.is c.in_ok-value.ensures.does c.leading.invariant.reaches c.in-Ended.ended c.in-Ended.is
 
 pub returns-in-Nothing-clause-does : goal.returns-in-Nothing-clause-does

@@ -7,7 +7,7 @@ use Rattle.js_step_call.proofs.leading.leading_arguments.Given as goal
 -- The arguments before the place are evaluated.
 abbrev pub invariant-leading : goal.invariant-leading
 invariant-leading l = record {
-  reaches : Reaches (nodes_of l.tree) l.node l.scope l.initial.state l.at l.before l.state;
+  reaches : Reaches (nodes_of l.tree) l.fn.node l.scope l.initial.state l.at l.before l.state;
   closed : IsClosed (nodes_of l.tree) l.initial.state → ScopeFits (nodes_of l.tree) l.initial.state.heap.cells l.scope → GoesOn (nodes_of l.tree) l.initial.state l.state × ListOver (ValueFits l.state.heap.cells) l.before;
 }
 

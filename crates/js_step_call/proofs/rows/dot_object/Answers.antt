@@ -33,13 +33,13 @@ returns-in-Ended-clause-does c =
     does_move nodes 6 (step p) p _ c.step_down.new.self _ _ (moves_step nodes p _ _ (rw c.if-not-step_down.false at c.step_down.ensures))
     (taken_ended nodes 6 c.args.object c.args.scope k _ _ _ _ (omega arith) c.in_ok-base.ensures.does c.in-Ended.is)
 
-pub returns-in-Nothing-clause-does : goal.returns-in-Nothing-clause-does
+pub returns-in_ok-inner-in-Nothing-clause-does : goal.returns-in_ok-inner-in-Nothing-clause-does
 unfolding call_at
-returns-in-Nothing-clause-does c =
+returns-in_ok-inner-in-Nothing-clause-does c =
     let nodes = nodes_of c.args.tree.now in
     let k : Value ℕ → Prog ℕ = λ base. use_rest nodes (Call c.args.node) base (Named c.args.callee) c.args.scope in
     does_step_ok nodes 6 (eval c.args.object c.args.scope k) _ _ _ _ (rw c.if-not-step_down.false at c.step_down.ensures)
-    (nothing_ok nodes 6 _ c.args.object c.args.scope _ _ _ _ _ c.in_ok-base.ensures.does c.in-Nothing.is (rw c.in_ok-inner.ensures at (c.enter.ensures.many nodes)))
+    (nothing_ok nodes 6 _ c.args.object c.args.scope _ _ _ _ _ c.in_ok-base.ensures.does c.in-Nothing.is (rw c.in_ok-inner-in-Nothing.ensures at (c.enter.ensures.many nodes)))
 
 pub returns-then-not-step_down-clause-closed : goal.returns-then-not-step_down-clause-closed
 returns-then-not-step_down-clause-closed c closed named scope = closed_step (nodes_of c.args.tree.now) c.args.state.now c.step_down.new.self c.step_down.result closed c.step_down.ensures
@@ -70,12 +70,12 @@ returns-in-Ended-clause-closed c closed named scope =
     let stepped = closed_step nodes old c.step_down.new.self c.step_down.result closed c.step_down.ensures in
     goes_on nodes old c.step_down.new.self c.take_value.new.state stepped (c.in_ok-base.ensures.closed stepped.closed (scope_grown nodes old.heap.cells c.step_down.new.self.heap.cells stepped.grows c.args.scope scope)).0
 
-pub returns-in_err-inner-clause-closed : goal.returns-in_err-inner-clause-closed
-returns-in_err-inner-clause-closed c closed named scope =
-    let p = err_from_is_err_and c.from_residual-in_err-inner.result c.from_residual-in_err-inner.ensures.1 in rw (p.1, p.2) (c.in_err-inner.ensures)
+pub returns-in_err-inner-in-Nothing-clause-closed : goal.returns-in_err-inner-in-Nothing-clause-closed
+returns-in_err-inner-in-Nothing-clause-closed c closed named scope =
+    let p = err_from_is_err_and c.from_residual-in_err-inner-in-Nothing.result c.from_residual-in_err-inner-in-Nothing.ensures.1 in rw (p.1, p.2) (c.in_err-inner-in-Nothing.ensures)
 
-pub returns-in-Nothing-clause-closed : goal.returns-in-Nothing-clause-closed
-returns-in-Nothing-clause-closed c closed named scope =
+pub returns-in_ok-inner-in-Nothing-clause-closed : goal.returns-in_ok-inner-in-Nothing-clause-closed
+returns-in_ok-inner-in-Nothing-clause-closed c closed named scope =
     let nodes = nodes_of c.args.tree.now in
     let old = c.args.state.now in
     let mid = c.take_value.new.state in
@@ -83,4 +83,4 @@ returns-in-Nothing-clause-closed c closed named scope =
     let went = c.in_ok-base.ensures.closed stepped.closed (scope_grown nodes old.heap.cells c.step_down.new.self.heap.cells stepped.grows c.args.scope scope) in
     let so = goes_on nodes old c.step_down.new.self mid stepped went.0 in
     let around = scope_grown nodes old.heap.cells mid.heap.cells so.grows c.args.scope scope in
-    lasts_on nodes old mid c.enter.new.self c.enter.result so (c.enter.ensures.closed nodes so.closed (named, around) (rw c.in_ok-inner.ensures around))
+    lasts_on nodes old mid c.enter.new.self c.enter.result so (c.enter.ensures.closed nodes so.closed (named, around) (rw c.in_ok-inner-in-Nothing.ensures around))

@@ -21,10 +21,10 @@ returns-in-Ended-clause-does c =
     let k : Value ℕ → Prog ℕ = λ f. call_rest nodes (Callee c.args.node c.args.scope) f in
     taken_ended nodes 6 c.args.callee c.args.scope k _ _ _ _ (omega arith) c.in_ok-value.ensures.does c.in-Ended.is
 
-pub returns-in-Nothing-clause-does : goal.returns-in-Nothing-clause-does
-returns-in-Nothing-clause-does c =
+pub returns-in_ok-inner-in-Nothing-clause-does : goal.returns-in_ok-inner-in-Nothing-clause-does
+returns-in_ok-inner-in-Nothing-clause-does c =
     let nodes = nodes_of c.args.tree.now in
-    nothing_ok nodes 6 _ c.args.callee c.args.scope _ _ _ _ _ c.in_ok-value.ensures.does c.in-Nothing.is (rw c.in_ok-inner.ensures at (c.enter_callee.ensures.does nodes))
+    nothing_ok nodes 6 _ c.args.callee c.args.scope _ _ _ _ _ c.in_ok-value.ensures.does c.in-Nothing.is (rw c.in_ok-inner-in-Nothing.ensures at (c.enter_callee.ensures.does nodes))
 
 pub returns-in_err-value-clause-closed : goal.returns-in_err-value-clause-closed
 returns-in_err-value-clause-closed c closed scope =
@@ -42,16 +42,16 @@ returns-in-Value-clause-closed c closed scope =
 pub returns-in-Ended-clause-closed : goal.returns-in-Ended-clause-closed
 returns-in-Ended-clause-closed c closed scope = (c.in_ok-value.ensures.closed closed scope).0
 
-pub returns-in_err-inner-clause-closed : goal.returns-in_err-inner-clause-closed
-returns-in_err-inner-clause-closed c closed scope =
-    let p = err_from_is_err_and c.from_residual-in_err-inner.result c.from_residual-in_err-inner.ensures.1 in rw (p.1, p.2) (c.in_err-inner.ensures)
+pub returns-in_err-inner-in-Nothing-clause-closed : goal.returns-in_err-inner-in-Nothing-clause-closed
+returns-in_err-inner-in-Nothing-clause-closed c closed scope =
+    let p = err_from_is_err_and c.from_residual-in_err-inner-in-Nothing.result c.from_residual-in_err-inner-in-Nothing.ensures.1 in rw (p.1, p.2) (c.in_err-inner-in-Nothing.ensures)
 
-pub returns-in-Nothing-clause-closed : goal.returns-in-Nothing-clause-closed
-returns-in-Nothing-clause-closed c closed scope =
+pub returns-in_ok-inner-in-Nothing-clause-closed : goal.returns-in_ok-inner-in-Nothing-clause-closed
+returns-in_ok-inner-in-Nothing-clause-closed c closed scope =
     let nodes = nodes_of c.args.tree.now in
     let old = c.args.state.now in
     let mid = c.take_value.new.state in
     let went = c.in_ok-value.ensures.closed closed scope in
     let around = scope_grown nodes old.heap.cells mid.heap.cells went.0.grows c.args.scope scope in
     lasts_on nodes old mid c.enter_callee.new.state c.enter_callee.result went.0
-    (c.enter_callee.ensures.closed nodes went.0.closed around (rw c.in_ok-inner.ensures around))
+    (c.enter_callee.ensures.closed nodes went.0.closed around (rw c.in_ok-inner-in-Nothing.ensures around))
