@@ -33,7 +33,7 @@ use Rattle.js_machine.proofs.Doing.{allowing, does_move_ok, moves_by, moves_on, 
 use Rattle.js_primary.specs.declared.taking.Taken.{Taken}
 use Rattle.js_primary.specs.declared.taking.Taken.TheVariants as taken
 use Rattle.js_primary.specs.AtHand.{at_hand, held, name_at_hand, ready}
-use Rattle.js_primary.specs.Giving.{ComesTo, Gives, StepsTo, Takes, TakesBound}
+use Rattle.js_primary.specs.Giving.{ComesTo, Gives, StepsTo, Takes, TakesAtHand, TakesBound}
 
 -- what a name stands for as a binding is the value of the innermost one, where this is ready
 held_value : (u : Option (Value ℕ)) → held (value_named u) ≡ u
@@ -89,7 +89,7 @@ known_ok o p (Ok x) same is = is ∙ same
 known_ok o p (Err fault) same is = tt
 
 -- the step of a node is taken that gives a value
-steps_some : (nodes : List Node) (node : NodeId) (scope : Scope ℕ) (v : Value ℕ) (old mid : State) → ((supply : ℕ → ℕ) → Gives (row (NodeRequest node scope)) (world_of nodes supply old) v) → StepsDown old mid true
+pub steps_some : (nodes : List Node) (node : NodeId) (scope : Scope ℕ) (v : Value ℕ) (old mid : State) → ((supply : ℕ → ℕ) → Gives (row (NodeRequest node scope)) (world_of nodes supply old) v) → StepsDown old mid true
     → (k : Value ℕ → Prog ℕ) → Moves nodes (eval node scope k) old (k v) mid
 unfolding run
 steps_some nodes node scope v old mid gives (some, is) k = rw is (record {
@@ -155,3 +155,8 @@ not_taken nodes node scope old mid t h is = subst (Takes nodes node scope old mi
 pub nothing_ok : (nodes : List Node) (n : ℕ) (p : Prog ℕ) (node : NodeId) (scope : Scope ℕ) (old mid new : State) (t : Taken ℕ) (r : Result Next StepFault)
     → Takes nodes node scope old mid t → t ≡ taken.Nothing → IfOk r (λ next. Does nodes n p mid new next) → IfOk r (λ next. Does nodes n p old new next)
 nothing_ok nodes n p node scope old mid new t r h is d = rw (not_taken nodes node scope old mid t h is) at d
+
+-- nothing is said of steps where no value is at hand
+pub not_at_hand : (old new : State) (r : Result (Taken ℕ) StepFault) → IfOk r (λ t. TakesAtHand None old new t)
+not_at_hand old new (Ok t) = tt
+not_at_hand old new (Err fault) = tt

@@ -38,6 +38,11 @@ abbrev pub TakesGiven : Option (Value ℕ) → State → State → Taken ℕ →
 TakesGiven (Some value) old new t = StepsTo value old new t
 TakesGiven None old new t = (t ≡ taken.Nothing) × (new ≡ old)
 
+-- where a value is at hand its step is taken, or none was left
+abbrev pub TakesAtHand : Option (Value ℕ) → State → State → Taken ℕ → Type 0
+TakesAtHand (Some value) old new t = StepsTo value old new t
+TakesAtHand None old new t = Unit {0}
+
 -- A program that goes on with a value by k comes to k at the value taken, or the world has stopped; or else nothing is done.
 abbrev pub Comes : List Node → Prog ℕ → (Value ℕ → Prog ℕ) → State → State → Taken ℕ → Type 0
 Comes nodes p k old new (taken.Value v) = Moves nodes p old (k v) new

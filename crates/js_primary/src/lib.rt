@@ -3,6 +3,7 @@
 #![tactic(auto)]
 
 mod at_hand;
+mod composed;
 mod taking;
 
 pub use at_hand::number_value;

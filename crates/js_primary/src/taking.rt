@@ -1,5 +1,5 @@
 //! Evaluating a node in place.
-ghost use Rattle.std.specs.Prelude.{◌≡◌, ℕ, List, IfOk, MatchResult, slice_get};
+ghost use Rattle.std.specs.Prelude.{◌≡◌, ℕ, List, Some, IfOk, MatchResult, slice_get};
 ghost use Rattle.js_tree.specs.declared.node.Node as kind;
 ghost use Rattle.world_heap.specs.Over.{OptionOver};
 ghost use Rattle.js_names.specs.Patterns.{nodes_of};
@@ -7,23 +7,27 @@ ghost use Rattle.js_machine.specs.Closed.{GoesOn, IsClosed, ScopeFits, ValueFits
 ghost use Rattle.js_machine.specs.Does.{world_of};
 ghost use Rattle.js_step_expr.specs.Fitting.{LastsWith};
 ghost use Rattle.js_primary.specs.AtHand.{at_hand, name_at_hand};
-ghost use Rattle.js_primary.specs.Giving.{StepsTo, TakenFits, Takes, TakesBound, TakesGiven};
+ghost use Rattle.js_primary.specs.Giving.{StepsTo, TakenFits, Takes, TakesAtHand, TakesBound, TakesGiven};
 
 use crate::at_hand::{name_at_hand, value_at_hand};
+use crate::composed::composed;
 use js_machine::{Next, State, discard, node_at, stopped};
 use js_semantics::{Scope, StepFault};
-use js_tree::{NodeId, Tree};
+use js_tree::{Node, NodeId, Tree};
 use world_heap::{Loc, Value};
 use world_log::Stop;
+
+/// How deep operators and properties are nested at most that are evaluated in place.
+const DEEPEST: usize = 4;
 
 /// What evaluating a node in place comes to.
 #[derive(Drop)]
 pub enum Taken<L = Loc> {
-    /// The node's step is taken, and this is its value.
+    /// The node's steps are taken, and this is its value.
     Value(Value<L>),
     /// No step was left: the world has stopped.
     Ended(Next),
-    /// The node's value isn't at hand: nothing was done.
+    /// The node isn't evaluated in place: nothing was done.
     Nothing,
 }
 
@@ -41,28 +45,32 @@ fn step_to(state: &mut State, value: Value) -> Taken
     }
 }
 
-// The value of the node with a number, where it is at hand.
-#[tactic(auto, unfolding(crate::specs::AtHand::at_hand))]
-fn value_found(
-    state: &State,
+// Evaluates an operator or a property in place, where nothing of the script runs for it.
+fn take_composed(
+    state: &mut State,
     tree: &Tree,
+    here: &Node,
     node: NodeId,
     scope: &Scope,
-) -> Result<Option<Value>, StepFault>
-    ensures is { (supply : ℕ → ℕ) → IfOk result (λ found. found ≡ at_hand (slice_get (nodes_of tree.now) node.0) scope.now (world_of (nodes_of tree.now) supply state.now)) }
-    ensures closed { IsClosed (nodes_of tree.now) state.now → ScopeFits (nodes_of tree.now) state.now.heap.cells scope.now → MatchResult result (λ found. OptionOver (ValueFits state.now.heap.cells) found) (λ fault. fault ≡ StepFault.Memory) }
+) -> Result<Taken, StepFault>
+    requires { slice_get (nodes_of tree.now) node.0 ≡ Some here.now }
+    ensures does { IfOk result (λ taken. Takes (nodes_of tree.now) node scope.now state.old state.new taken) }
+    ensures closed { IsClosed (nodes_of tree.now) state.old → ScopeFits (nodes_of tree.now) state.old.heap.cells scope.now → LastsWith TakenFits (nodes_of tree.now) state.old state.new result }
 {
-    match node_at(tree, node) {
-        Some(here) => value_at_hand(state, here, scope),
-        None => Ok(None),
+    match composed(state, tree, here, node, scope, DEEPEST)? {
+        Some(value) => Ok(Taken::Value(value)),
+        None => Ok(Taken::Nothing),
     }
 }
 
-/// Evaluates a node whose value is at hand, which are literals, `this`, and names whose innermost binding is ready: takes
-/// its step, and gives the value, or ends the world's run where no step is left. For any other node nothing is done.
+/// Evaluates a node in place. Where its value is at hand, which it is of literals, `this`, and names whose innermost
+/// binding is ready, its step is taken and the value given, or the world's run ends where no step is left. An operator on
+/// numbers, `===`, `!==` or a property whose operands are at hand, or are such themselves to a depth of four, is evaluated
+/// with all its steps, where no getter is called, no text made, no error thrown and steps enough are left. For any other
+/// node nothing is done.
 ///
 /// The cost for a name is linear in the environments around it and their bindings, and in the chain of the global object's
-/// prototypes where none binds it; a string is shared, not copied.
+/// prototypes where none binds it; for a property it is that of reading it; a string is shared, not copied.
 ///
 /// # Errors
 /// `Memory` where there is none; `Dangling` where the global object stands nowhere, which is never in a closed state.
@@ -72,12 +80,15 @@ pub fn take_value(
     node: NodeId,
     scope: &Scope,
 ) -> Result<Taken, StepFault>
-    ensures is { (supply : ℕ → ℕ) → IfOk result (λ taken. TakesGiven (at_hand (slice_get (nodes_of tree.now) node.0) scope.now (world_of (nodes_of tree.now) supply state.old)) state.old state.new taken) }
+    ensures is { (supply : ℕ → ℕ) → IfOk result (λ taken. TakesAtHand (at_hand (slice_get (nodes_of tree.now) node.0) scope.now (world_of (nodes_of tree.now) supply state.old)) state.old state.new taken) }
     ensures does { IfOk result (λ taken. Takes (nodes_of tree.now) node scope.now state.old state.new taken) }
     ensures closed { IsClosed (nodes_of tree.now) state.old → ScopeFits (nodes_of tree.now) state.old.heap.cells scope.now → LastsWith TakenFits (nodes_of tree.now) state.old state.new result }
 {
-    match value_found(state, tree, node, scope)? {
-        Some(value) => Ok(step_to(state, value)),
+    match node_at(tree, node) {
+        Some(here) => match value_at_hand(state, here, scope)? {
+            Some(value) => Ok(step_to(state, value)),
+            None => take_composed(state, tree, here, node, scope),
+        },
         None => Ok(Taken::Nothing),
     }
 }
