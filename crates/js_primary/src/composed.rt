@@ -306,7 +306,7 @@ pub(crate) fn composed(
         return Ok(None);
     }
     let before = state.steps;
-    state.steps -= 1;
+    state.steps = before - 1;
     match row(state, tree, here, node, scope, depth - 1)? {
         Some(value) => Ok(Some(value)),
         None => {
