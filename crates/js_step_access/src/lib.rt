@@ -1,11 +1,13 @@
 //! What operators leave to do where it may call code of the script: names and properties are read, written and removed,
-//! and then the rows of updates, assignments by an operator, `typeof`, `delete` and `instanceof` end.
+//! and then the rows of updates, assignments, `typeof`, `delete` and `instanceof` end. What is at hand of an assignment is
+//! evaluated in place.
 //!
 //! Each function that takes a state answers `Memory` where memory runs out, and `Dangling` where it meets a location that
 //! stands nowhere, or a node without the name it should have; to neither comes a script.
 #![tactic(auto)]
 
 mod after;
+mod assigning;
 mod binary;
 mod finishing;
 mod inheritance;
@@ -19,6 +21,7 @@ mod usage;
 mod writing;
 
 pub use after::{after_assign_by, after_update};
+pub use assigning::row_assign;
 pub use binary::row_binary;
 pub use finishing::finish;
 pub use instance::{after_assign_instance, after_instance, instance_of};

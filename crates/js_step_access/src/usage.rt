@@ -7,12 +7,12 @@ ghost use Rattle.js_machine.specs.Frames.{after_rest, key_text, use_rest};
 ghost use Rattle.js_names.specs.Patterns.{nodes_of};
 ghost use Rattle.js_step_expr.specs.Fitting.{KeyFits};
 
+use crate::assigning::assigned;
 use crate::keys::{copy_key, key_units};
 use crate::removal::delete;
 use js_calls::get;
-use js_machine::{AfterFrame, Key, Next, OperandFrame, Place, State, Use, discard};
+use js_machine::{AfterFrame, Key, Next, Place, State, Use, discard};
 use js_semantics::{Scope, StepFault};
-use js_step_expr::enter_operand;
 use js_tree::{BinaryOperator, NodeId, Tree, UpdateOperator};
 use std::alloc::Global;
 use world_heap::Value;
@@ -125,7 +125,8 @@ fn read_for_call(
     read(state, tree, base, &key, frame)
 }
 
-/// What is done with a property: it is read or removed, or first the value that is assigned is entered.
+/// What is done with a property: it is read or removed, or first the value that is assigned is evaluated in
+/// place, or entered.
 pub fn use_property(
     state: &mut State,
     tree: &Tree,
@@ -151,7 +152,7 @@ pub fn use_property(
         }
         Use::Assign { value } => {
             let place = Place::Property { base, key };
-            enter_operand(state, OperandFrame::AssignValue { place }, value, scope)
+            assigned(state, tree, place, value, scope)
         }
         Use::AssignBy { operator, value } => {
             read_for_assignment(state, tree, operator, value, base, key, scope)
