@@ -9,9 +9,7 @@ ghost use Rattle.js_step.specs.Kinds.{is_operator};
 use js_machine::{Next, State};
 use js_semantics::{Scope, StepFault};
 use js_step_access::{row_assign, row_assign_with, row_binary, row_typeof, row_update};
-use js_step_expr::{
-    row_and, row_cond, row_delete, row_nullish, row_or, row_seq, row_unary,
-};
+use js_step_expr::{row_and, row_cond, row_delete, row_nullish, row_or, row_seq, row_unary};
 use js_tree::{Node, NodeId, Tree};
 
 /// The row of an operator with its operands, or of an assignment (ECMA-262, 13.4 to 13.16).
