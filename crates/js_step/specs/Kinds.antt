@@ -1,7 +1,9 @@
 -- The groups that rows and frames are told apart by.
-use Rattle.std.specs.Prelude.{Bool, true, false}
+use Rattle.std.specs.Prelude.{ℕ, Bool, true, false}
 use Rattle.js_tree.specs.declared.node.Node.{Node}
 use Rattle.js_tree.specs.declared.node.Node.TheVariants as kinds
+use Rattle.js_machine.specs.declared.frame.Frame.{Frame}
+use Rattle.js_machine.specs.declared.frame.Frame.TheVariants as frames
 
 -- whether a node is an operator with its operands, or an assignment (ECMA-262, 13.4 to 13.16)
 abbrev pub is_operator : Node → Bool
@@ -37,3 +39,11 @@ is_operand (kinds.Index object key) = true
 is_operand (kinds.Call callee arguments) = true
 is_operand (kinds.New callee arguments) = true
 is_operand other = false
+
+-- whether a frame is one of those that are met less often
+abbrev pub is_rare : Frame ℕ → Bool
+is_rare (frames.OnValue f) = false
+is_rare (frames.After f) = false
+is_rare frames.Leave = false
+is_rare (frames.WhileBody test body scope) = false
+is_rare other = true

@@ -1,5 +1,5 @@
 //! What is left of a row, with the outcome of the node below it.
-ghost use Rattle.std.specs.Prelude.{◌≡◌, ◌+◌, ℕ, List, IfOk};
+ghost use Rattle.std.specs.Prelude.{◌≡◌, ◌+◌, ℕ, true, List, IfOk};
 ghost use Rattle.js_tree.specs.declared.node.Node as kind;
 ghost use Rattle.world_heap.specs.declared.cell.Cell as kept;
 ghost use Rattle.js_names.specs.Patterns.{nodes_of};
@@ -7,14 +7,15 @@ ghost use Rattle.js_semantics.specs.Access.{given_by};
 ghost use Rattle.js_machine.specs.Closed.{AfterFits, FrameFits, IsClosed, Lasts, OutcomeFits};
 ghost use Rattle.js_machine.specs.Does.{Does, weight};
 ghost use Rattle.js_machine.specs.Frames.{rest};
+ghost use Rattle.js_step.specs.Kinds.{is_rare};
 
 use crate::afters::after_frame;
+use crate::statements::while_body_end;
 use crate::values::value_frame;
 use js_machine::{AfterFrame, Frame, Next, State, ValueFrame, discard};
 use js_semantics::{Outcome, StepFault};
 use js_step_stmt::{
     Walk, at_last, caught, do_body_end, for_body_end, of_body_end, replaced_by, script_end,
-    while_body_end,
 };
 use js_tree::Tree;
 use world_heap::Value;
@@ -82,23 +83,21 @@ fn leave(state: &mut State, outcome: Outcome) -> Result<Next, StepFault>
     state.give(given_by(outcome))
 }
 
-/// What is left of a row, with the outcome of the node below it.
-#[inline(always)]
-pub(crate) fn frame_end(
+// What is left of a row whose frame is one of those that are met less often. It stands apart from `frame_end`, which needs
+// no room for their parts.
+#[inline(never)]
+fn rare_frame_end(
     state: &mut State,
     tree: &Tree,
     frame: Frame,
     outcome: Outcome,
 ) -> Result<Next, StepFault>
+    requires { is_rare frame ≡ true }
     ensures does { IfOk result (λ next. Does (nodes_of tree.now) (weight frame + 1) (rest (nodes_of tree.now) frame outcome) state.old state.new next) }
     ensures closed { IsClosed (nodes_of tree.now) state.old → FrameFits (nodes_of tree.now) state.old.heap.cells frame → OutcomeFits (nodes_of tree.now) state.old.heap.cells outcome → Lasts (nodes_of tree.now) state.old state.new result }
 {
     match frame {
-        Frame::OnValue(frame) => value_end(state, tree, frame, outcome),
-        Frame::After(frame) => after_end(state, tree, frame, outcome),
         Frame::Script => script_end(state, outcome),
-        Frame::Leave => leave(state, outcome),
-        Frame::WhileBody { test, body, scope } => while_body_end(state, test, body, scope, outcome),
         Frame::DoBody { body, test, scope } => do_body_end(state, body, test, scope, outcome),
         Frame::ForBody { turn, scope } => for_body_end(state, turn, scope, outcome),
         Frame::ForOfBody {
@@ -124,5 +123,28 @@ pub(crate) fn frame_end(
         } => caught(state, tree, bind, handler, scope, outcome),
         Frame::Last { last, scope } => at_last(state, last, scope, outcome),
         Frame::Replaced { before } => replaced_by(state, before, outcome),
+        _ => unreachable!(),
+    }
+}
+
+/// What is left of a row, with the outcome of the node below it.
+#[inline(always)]
+pub(crate) fn frame_end(
+    state: &mut State,
+    tree: &Tree,
+    frame: Frame,
+    outcome: Outcome,
+) -> Result<Next, StepFault>
+    ensures does { IfOk result (λ next. Does (nodes_of tree.now) (weight frame + 1) (rest (nodes_of tree.now) frame outcome) state.old state.new next) }
+    ensures closed { IsClosed (nodes_of tree.now) state.old → FrameFits (nodes_of tree.now) state.old.heap.cells frame → OutcomeFits (nodes_of tree.now) state.old.heap.cells outcome → Lasts (nodes_of tree.now) state.old state.new result }
+{
+    match frame {
+        Frame::OnValue(frame) => value_end(state, tree, frame, outcome),
+        Frame::After(frame) => after_end(state, tree, frame, outcome),
+        Frame::Leave => leave(state, outcome),
+        Frame::WhileBody { test, body, scope } => {
+            while_body_end(state, tree, test, body, scope, outcome)
+        }
+        _ => rare_frame_end(state, tree, frame, outcome),
     }
 }

@@ -7,6 +7,7 @@ mod nodes;
 mod operands;
 mod operators;
 mod resuming;
+mod statements;
 mod stepping;
 mod values;
 

@@ -8,10 +8,10 @@ ghost use Rattle.js_machine.specs.Does.{Does};
 
 use crate::operands::row_operand;
 use crate::operators::row_operator;
+use crate::statements::row_statement;
 use js_machine::{Next, State, discard, done, node_at};
 use js_semantics::{Scope, StepFault};
 use js_step_block::row_block;
-use js_step_stmt::row_statement;
 use js_tree::{Node, NodeId, Tree};
 
 // The row of a node that stands in the tree.

@@ -6,6 +6,7 @@ ghost use Rattle.js_machine.specs.Closed.{FrameFits, IsClosed, Lasts, ValueFits}
 ghost use Rattle.js_machine.specs.Does.{Does};
 ghost use Rattle.js_machine.specs.Frames.{literal_rest, statement_rest, value_rest};
 
+use crate::statements::for_turn;
 use js_iterate::{element_spread, for_of_list};
 use js_machine::{LiteralFrame, Next, State, StatementFrame, ValueFrame};
 use js_patterns::pattern_frame;
@@ -75,7 +76,8 @@ fn statement_frame(
             body,
             scope,
         } => for_of_list(state, tree, constant, bind, body, scope, &value),
-        other => statement_end(state, tree, other, value),
+        StatementFrame::ForNext { turn, scope } => for_turn(state, tree, turn, scope),
+        _ => statement_end(state, tree, frame, value),
     }
 }
 

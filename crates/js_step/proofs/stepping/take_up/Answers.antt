@@ -1,8 +1,6 @@
 use Rattle.std.proofs.Common.{◌+◌, refl, arith}
 use Rattle.js_names.specs.Patterns.{nodes_of}
 use Rattle.js_machine.specs.Does.{weight}
-use Rattle.js_machine.specs.declared.state.Control.TheVariants.{Stop}
-use Rattle.js_machine.proofs.Closing.{closed_control}
 use Rattle.js_machine.proofs.Stepping.{took_up_ok}
 use Rattle.js_step.proofs.Closing.{popped_fits, popped_rows}
 use Rattle.js_step.proofs.stepping.take_up.Goals as goal

@@ -1,4 +1,3 @@
-use Rattle.js_names.specs.Patterns.{nodes_of}
 use Rattle.js_step.proofs.values.literal_end.Goals as goal
 
 pub returns-then-spread-clause-closed : goal.returns-then-spread-clause-closed
