@@ -1,3 +1,4 @@
 pub mod Numbers
 pub mod Evaluating
 pub mod Composing
+pub mod Summing

@@ -49,6 +49,12 @@ Comes nodes p k old new (taken.Value v) = Moves nodes p old (k v) new
 Comes nodes p k old new (taken.Ended next) = Does nodes 2 p old new next
 Comes nodes p k old new taken.Nothing = new ≡ old
 
+-- something was done
+abbrev pub IsTaken : Taken ℕ → Type 0
+IsTaken (taken.Value v) = Unit {0}
+IsTaken (taken.Ended next) = Unit {0}
+IsTaken taken.Nothing = ⊥
+
 -- A node is evaluated in place, or nothing is done.
 abbrev pub Takes : List Node → NodeId → Scope ℕ → State → State → Taken ℕ → Type 0
 Takes nodes node scope old new t = (k : Value ℕ → Prog ℕ) → Comes nodes (eval node scope k) k old new t

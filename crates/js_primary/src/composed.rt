@@ -134,9 +134,13 @@ fn operand(
     }
 }
 
-// The values of two nodes, one after the other.
+/// The values of two nodes, one after the other, with their steps taken; `None` where one isn't evaluated in place: nothing
+/// is done then. The cost is that of `composed`.
+///
+/// # Errors
+/// Those of `composed`.
 #[cycle(composed)]
-fn operands(
+pub(crate) fn operands(
     state: &mut State,
     tree: &Tree,
     left: NodeId,
