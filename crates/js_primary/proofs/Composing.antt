@@ -1,9 +1,11 @@
 -- How operators and properties are evaluated in place.
-use Rattle.std.proofs.Common.{◌≡◌, ◌≢◌, ℕ, ◌-◌, List, true, Some, slice_get, nat_eq, refl, sym, ap, ◌∙◌, arith}
+use Rattle.std.proofs.Common.{Bool, true, not, if◌then◌else◌, ◌≡◌, ◌≢◌, ℕ, ◌-◌, List, Some, slice_get, nat_eq, refl, sym, ap, ◌∙◌, arith, false, is_some, None, Option}
 use Rattle.world_heap.specs.declared.value.Value.{Value}
-use Rattle.world_heap.specs.declared.value.Value.TheVariants.{Ref}
+use Rattle.world_heap.specs.declared.value.Value.TheVariants.{Str}
 use Rattle.proto_props.specs.declared.get.Got.TheVariants.{Value as Given}
-use Rattle.proto_props.specs.Gets.{gets}
+use Rattle.proto_props.specs.Gets.{gets, text_unit}
+use Rattle.proto_props.specs.Own.{is_length}
+use Rattle.js_semantics.specs.Properties.{made_of}
 use Rattle.js_tree.specs.declared.node.NodeId.{NodeId}
 use Rattle.js_tree.specs.declared.node.BinaryOperator.{BinaryOperator}
 use Rattle.js_tree.specs.declared.node.Node.{Node}
@@ -11,7 +13,7 @@ use Rattle.js_semantics.specs.declared.scope.Scope.{Scope}
 use Rattle.js_semantics.specs.Access.{get, take_up}
 use Rattle.js_semantics.specs.Operators.{key_of}
 use Rattle.js_semantics.specs.Expressions.{apply, row_binary, row_dot, row_index, with_key}
-use Rattle.js_semantics.specs.Prog.{Prog, Node as NodeRequest, bind, eval, give, on_value}
+use Rattle.js_semantics.specs.Prog.{Prog, Node as NodeRequest, bind, eval, give, on_value, make_text}
 use Rattle.js_semantics.specs.Rows.{row, row_of}
 use Rattle.js_semantics.specs.Run.{receive, run}
 use Rattle.js_semantics.proofs.Programs.{spend_some}
@@ -22,10 +24,28 @@ use Rattle.js_primary.specs.AtHand.{at_hand}
 use Rattle.js_primary.specs.Composed.{BothWork, ComesAt, OnlySteps, RowWorks, Works}
 use Rattle.js_primary.proofs.Evaluating.{node_gives, steps_some}
 
--- a property of an object is read that has a value
-pub read_gives : (nodes : List Node) (loc : ℕ) (key : List ℕ) (v : Value ℕ) (s : State) (k : Value ℕ → Prog ℕ) → Given v ≡ gets nat_eq s.heap.cells (Ref loc) key → Moves nodes (get (Ref loc) key k) s (k v) s
+-- a property is read that has a value, where no text is made for it
+pub read_gives : (nodes : List Node) (of : Value ℕ) (key : List ℕ) (v : Value ℕ) (s : State) (k : Value ℕ → Prog ℕ) → made_of of key ≡ None → Given v ≡ gets nat_eq s.heap.cells of key → Moves nodes (get of key k) s (k v) s
 unfolding get
-read_gives nodes loc key v s k is = moves_read nodes (λ w. take_up (gets w.same w.heap (Ref loc) key) (Ref loc) key k) (k v) s (λ supply. ap (λ g. take_up g (Ref loc) key k) (sym is))
+read_gives nodes of key v s k made is =
+    moves_read nodes (λ w. take_up (gets w.same w.heap of key) of key k) (k v) s
+    (λ supply. ap (λ g. take_up g of key k) (sym is) ∙ ap (λ (o : Option (List ℕ)). elim o [ Some text ↦ make_text text k | None ↦ k v ]) made)
+
+none_by : {A : Type 0} (o : Option A) → is_some o ≡ false → o ≡ None
+none_by None is = refl
+none_by (Some x) is = absurd (cc is)
+
+-- a text has no unit under a key
+no_unit_made : (text key : List ℕ) → is_some (text_unit text key) ≡ false → ◌≡◌ {A = Option (List ℕ)} (made_of {L = ℕ} (Str text) key) None
+no_unit_made text key is = by (is_length key)
+  where
+    by : (b : Bool) → ◌≡◌ {A = Option (List ℕ)} (if b then None else text_unit text key) None
+    by true = refl
+    by false = none_by (text_unit text key) is
+
+pub no_unit_told : (text key : List ℕ) (b : Bool) → b ≡ is_some (text_unit text key) → not b ≡ true → ◌≡◌ {A = Option (List ℕ)} (made_of {L = ℕ} (Str text) key) None
+no_unit_told text key true e is = absurd (cc is)
+no_unit_told text key false e is = no_unit_made text key (sym e)
 
 -- nothing but steps is taken by two, one after the other
 pub only_twice : (old mid new : State) → OnlySteps old mid → OnlySteps mid new → OnlySteps old new

@@ -94,6 +94,7 @@ pub(crate) fn name_at_hand(state: &State, node: &Node, env: Loc) -> Result<Optio
 ///
 /// # Errors
 /// `Memory` where there is none; `Dangling` where the global object stands nowhere, which is never in a closed state.
+#[inline(always)]
 #[tactic(auto, unfolding(crate::specs::AtHand::at_hand))]
 pub(crate) fn value_at_hand(
     state: &State,

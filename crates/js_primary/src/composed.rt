@@ -1,10 +1,12 @@
 //! Operators and properties whose operands are at hand, or are such operators and properties themselves: they are evaluated
 //! in place, since nothing of the script runs before they have ended (ECMA-262, 13.3.2 and 13.6 to 13.12).
-ghost use Rattle.std.specs.Prelude.{◌≡◌, ◌≢◌, ℕ, List, Some, IfOk, IfSome, MatchResult, slice_get};
+ghost use Rattle.std.specs.Prelude.{◌≡◌, ◌≢◌, true, ℕ, List, Some, None, IfOk, MatchResult, nat_eq, slice_get};
 ghost use Rattle.js_tree.specs.declared.node.Node as kind;
-ghost use Rattle.world_heap.specs.Over.{OptionOver};
+ghost use Rattle.world_heap.specs.Heaps.{IsCell};
+ghost use Rattle.world_heap.specs.Over.{OptionOver, ValueOver};
 ghost use Rattle.js_names.specs.Patterns.{nodes_of};
 ghost use Rattle.js_semantics.specs.Access.{get};
+ghost use Rattle.js_semantics.specs.Properties.{made_of};
 ghost use Rattle.js_semantics.specs.Operators.{key_of};
 ghost use Rattle.js_semantics.specs.Expressions.{apply, row_binary, row_dot, row_index, with_key};
 ghost use Rattle.js_semantics.specs.Rows.{row_of};
@@ -12,13 +14,14 @@ ghost use Rattle.js_machine.specs.Closed.{IsClosed, ScopeFits, ValueFits};
 ghost use Rattle.js_primary.specs.Composed.{BothFit, BothWork, ComesAt, RowWorks, TakesStep, Works};
 
 use crate::at_hand::value_at_hand;
+use js_calls::has_unit;
 use js_machine::{State, discard, is_cell, node_at};
 use js_operators::{Answer, key_of, of_operands, strictly_equal};
 use js_semantics::{Scope, StepFault};
 use js_tree::{BinaryOperator, Node, NodeId, Tree};
 use proto_props::{Got, get_step};
 use wl_text::Units;
-use world_heap::Value;
+use world_heap::{Heap, Value};
 
 // What an operator comes to on two numbers, where this is a value.
 fn of_numbers(
@@ -75,22 +78,28 @@ fn answered(
     }
 }
 
-// The value of a property of an object, where no getter is called for it.
+// Whether reading a property makes no text: that of an object, or of a text that has no unit under the key.
+fn is_read_plainly(heap: &Heap, of: &Value, key: &Units) -> bool
+    ensures { result ≡ true → ValueOver (IsCell nat_eq heap.now.cells) of.now × (made_of of.now key.now ≡ None) }
+{
+    match of {
+        Value::Ref(loc) => is_cell(heap, *loc),
+        Value::Str(text) => !has_unit(text, key),
+        Value::Undefined | Value::Null | Value::Bool(_) | Value::Num(_) => false,
+    }
+}
+
+// The value of a property, where no getter is called for it, and no text made.
 fn property_value(state: &State, of: &Value, key: &Units) -> Result<Option<Value>, StepFault>
     ensures is { (nodes : List kind.Node) → IfOk result (λ found. ComesAt nodes (λ k. get of.now key.now k) state.now found) }
     ensures closed { MatchResult result (λ found. OptionOver (ValueFits state.now.heap.cells) found) (λ fault. fault ≡ StepFault.Memory) }
 {
-    match of {
-        Value::Ref(loc) => {
-            if !is_cell(&state.heap, *loc) {
-                return Ok(None);
-            }
-            match get_step(state.alloc, &state.heap, of, key)? {
-                Got::Value(value) => Ok(Some(value)),
-                Got::CallGetter(_) | Got::Absent | Got::Refused => Ok(None),
-            }
-        }
-        Value::Undefined | Value::Null | Value::Bool(_) | Value::Num(_) | Value::Str(_) => Ok(None),
+    if !is_read_plainly(&state.heap, of, key) {
+        return Ok(None);
+    }
+    match get_step(state.alloc, &state.heap, of, key)? {
+        Got::Value(value) => Ok(Some(value)),
+        Got::CallGetter(_) | Got::Absent | Got::Refused => Ok(None),
     }
 }
 
