@@ -48,6 +48,7 @@ fn rest(state: &mut State, mode: Mode) -> Next
 /// # Errors
 /// `Memory` where there is none; `Dangling` where a location was met that stands nowhere, which is never from a closed
 /// state. The state is then that of no world any more.
+#[inline(always)]
 pub fn step(state: &mut State, tree: &Tree) -> Result<Next, StepFault>
     requires { is_running state.old.control ≡ true }
     ensures does { IfOk result (λ next. Steps (nodes_of tree.now) state.old state.new next) }
