@@ -1,5 +1,5 @@
 -- How arguments that are evaluated in place are put together with the call around them.
-use Rattle.std.proofs.Common.{◌≡◌, ℕ, ◌-◌, ◌<◌, List, [], ◌∷◌, ◌++◌, drop, Option, Some, None, slice_get, refl, sym, ap, subst, ◌∙◌, arith}
+use Rattle.std.proofs.Common.{◌≡◌, ℕ, List, [], ◌∷◌, ◌++◌, drop, false, Option, Some, slice_get, refl, sym, ap, subst}
 use Rattle.world_heap.specs.declared.value.Value.{Value}
 use Rattle.js_tree.specs.declared.node.NodeId.{NodeId}
 use Rattle.js_tree.specs.declared.node.Node.{Node}
@@ -11,43 +11,42 @@ use Rattle.js_semantics.specs.Prog.{Prog, Read, eval}
 use Rattle.js_machine.specs.declared.frame.CallTarget.{CallTarget}
 use Rattle.js_machine.specs.declared.state.State.{State}
 use Rattle.js_machine.specs.declared.state.Next.{Next}
-use Rattle.js_machine.specs.Does.{Does, Moves, world_of}
+use Rattle.js_machine.specs.Does.{Does, Moves}
 use Rattle.js_machine.specs.Frames.{arguments_rest, target_call}
 use Rattle.js_machine.specs.Parts.{items_of}
 use Rattle.js_machine.proofs.Doing.{does_move, does_read, moves_on, moves_read}
 use Rattle.js_primary.specs.declared.taking.Taken.{Taken}
 use Rattle.js_primary.specs.declared.taking.Taken.TheVariants as taken
-use Rattle.js_primary.specs.AtHand.{at_hand}
-use Rattle.js_primary.specs.Giving.{StepsTo, Takes, TakesGiven}
-use Rattle.js_step_call.specs.Leading.{Reaches}
+use Rattle.js_primary.specs.Giving.{Takes}
+use Rattle.js_step_call.specs.Leading.{Reaches, spreads}
 
--- a spread is never at hand
-plain : (o : Option Node) (argument : NodeId) (scope : Scope ℕ) (w : World ℕ) (k : List (Value ℕ) → Prog ℕ) (old new : State) (t : Taken ℕ) → (t ≡ taken.Nothing → ⊥) → TakesGiven (at_hand o scope w) old new t → values_of o argument scope k ≡ eval argument scope (λ v. k (v ∷ []))
-unfolding at_hand
-plain (Some (kinds.Spread list)) argument scope w k old new t some h = absurd (some h.0)
-plain other argument scope w k old new t some h = refl
+-- what is no spread is one value
+plain : (o : Option Node) (argument : NodeId) (scope : Scope ℕ) (k : List (Value ℕ) → Prog ℕ) → spreads o ≡ false → values_of o argument scope k ≡ eval argument scope (λ v. k (v ∷ []))
+unfolding spreads
+plain (Some (kinds.Spread list)) argument scope k h = absurd (cc h)
+plain other argument scope k h = refl
 
 -- an argument that was evaluated in place is one value
-module _ (nodes : List Node) (argument : NodeId) (scope : Scope ℕ) (k : List (Value ℕ) → Prog ℕ) (old new : State) (t : Taken ℕ) (is : (supply : ℕ → ℕ) → TakesGiven (at_hand (slice_get nodes argument.0) scope (world_of nodes supply old)) old new t) (does : Takes nodes argument scope old new t) where
-  one_is : (t ≡ taken.Nothing → ⊥) → (supply : ℕ → ℕ) → values_of (slice_get nodes argument.0) argument scope k ≡ eval argument scope (λ v. k (v ∷ []))
-  one_is some supply = plain (slice_get nodes argument.0) argument scope (world_of nodes supply old) k old new t some (is supply)
+module _ (nodes : List Node) (argument : NodeId) (scope : Scope ℕ) (k : List (Value ℕ) → Prog ℕ) (old new : State) (t : Taken ℕ) (single : spreads (slice_get nodes argument.0) ≡ false) (does : Takes nodes argument scope old new t) where
+  one_is : values_of (slice_get nodes argument.0) argument scope k ≡ eval argument scope (λ v. k (v ∷ []))
+  one_is = plain (slice_get nodes argument.0) argument scope k single
 
   one_taken : (v : Value ℕ) → t ≡ taken.Value v → Moves nodes (Read (λ w. values_of (slice_get w.tree argument.0) argument scope k)) old (k (v ∷ [])) new
   one_taken v e =
       let f : World ℕ → Prog ℕ = λ w. values_of (slice_get w.tree argument.0) argument scope k in
       let q : Prog ℕ = eval argument scope (λ u. k (u ∷ [])) in
-      moves_on nodes (Read f) q (k (v ∷ [])) old old new (moves_read nodes f q old (λ supply. one_is (λ none. absurd (cc (sym e ∙ none))) supply)) (subst (Takes nodes argument scope old new) e does (λ u. k (u ∷ [])))
+      moves_on nodes (Read f) q (k (v ∷ [])) old old new (moves_read nodes f q old (λ supply. one_is)) (subst (Takes nodes argument scope old new) e does (λ u. k (u ∷ [])))
 
   one_ended : (next : Next) → t ≡ taken.Ended next → Does nodes 2 (Read (λ w. values_of (slice_get w.tree argument.0) argument scope k)) old new next
   one_ended next e =
       let f : World ℕ → Prog ℕ = λ w. values_of (slice_get w.tree argument.0) argument scope k in
       let q : Prog ℕ = eval argument scope (λ u. k (u ∷ [])) in
-      does_read nodes 2 f q old new next (λ supply. one_is (λ none. absurd (cc (sym e ∙ none))) supply) (subst (Takes nodes argument scope old new) e does (λ u. k (u ∷ [])))
+      does_read nodes 2 f q old new next (λ supply. one_is) (subst (Takes nodes argument scope old new) e does (λ u. k (u ∷ [])))
 
 -- the argument at a place is evaluated, behind those before it
 module _ (nodes : List Node) (node : NodeId) (scope : Scope ℕ) (start old new : State) (at next : ℕ) (argument : NodeId) (before : List (Value ℕ)) (t : Taken ℕ)
     (list : drop at (items_of (slice_get nodes node.0)) ≡ argument ∷ drop next (items_of (slice_get nodes node.0)))
-    (is : (supply : ℕ → ℕ) → TakesGiven (at_hand (slice_get nodes argument.0) scope (world_of nodes supply old)) old new t)
+    (single : spreads (slice_get nodes argument.0) ≡ false)
     (does : Takes nodes argument scope old new t) (reaches : Reaches nodes node scope start at before old) where
   here : (target : CallTarget ℕ) → arguments_rest nodes node at before target scope ≡ Read (λ w. values_of (slice_get w.tree argument.0) argument scope (λ vs. arguments_rest nodes node next (before ++ vs) target scope))
   here target = ap (λ l. arguments_from before l scope (λ vs. target_call nodes target vs)) list
@@ -57,19 +56,11 @@ module _ (nodes : List Node) (node : NodeId) (scope : Scope ℕ) (start old new 
       let k : List (Value ℕ) → Prog ℕ = λ vs. arguments_rest nodes node next (before ++ vs) target scope in
       let p : Prog ℕ = arguments_rest nodes node 0 [] target scope in
       let q : Prog ℕ = arguments_rest nodes node at before target scope in
-      moves_on nodes p q (k (v ∷ [])) start old new (reaches target) (subst (λ r. Moves nodes r old (k (v ∷ [])) new) (sym (here target)) (one_taken nodes argument scope k old new t is does v e))
+      moves_on nodes p q (k (v ∷ [])) start old new (reaches target) (subst (λ r. Moves nodes r old (k (v ∷ [])) new) (sym (here target)) (one_taken nodes argument scope k old new t single does v e))
 
   pub reaches_ended : (ended : Next) → t ≡ taken.Ended ended → (target : CallTarget ℕ) → Does nodes 2 (arguments_rest nodes node 0 [] target scope) start new ended
   reaches_ended ended e target =
       let k : List (Value ℕ) → Prog ℕ = λ vs. arguments_rest nodes node next (before ++ vs) target scope in
       let p : Prog ℕ = arguments_rest nodes node 0 [] target scope in
       let q : Prog ℕ = arguments_rest nodes node at before target scope in
-      does_move nodes 2 p q start old new ended (reaches target) (subst (λ r. Does nodes 2 r old new ended) (sym (here target)) (one_ended nodes argument scope k old new t is does ended e))
-
--- where a value was taken a step less is left
-pub fewer_steps : (o : Option (Value ℕ)) (old new : State) (t : Taken ℕ) (v : Value ℕ) → TakesGiven o old new t → t ≡ taken.Value v → new.steps < old.steps
-fewer_steps None old new t v h e = absurd (cc (sym e ∙ h.0))
-fewer_steps (Some u) old new t v h e =
-    let (same, (some, is)) = subst (λ x. StepsTo u old new x) e h in
-    let fewer : new.steps ≡ old.steps - 1 = ap (λ s. s.steps) is in
-    omega arith
+      does_move nodes 2 p q start old new ended (reaches target) (subst (λ r. Does nodes 2 r old new ended) (sym (here target)) (one_ended nodes argument scope k old new t single does ended e))

@@ -1,10 +1,11 @@
 -- The arguments of a call that are evaluated in place, from the first on (ECMA-262, 13.3.8.1).
-use Rattle.std.specs.Prelude.{ℕ, List, []}
+use Rattle.std.specs.Prelude.{ℕ, Bool, true, false, List, [], Option, Some}
 use Rattle.world_heap.specs.declared.value.Value.{Value}
 use Rattle.world_heap.specs.declared.cell.Cell.{Cell}
 use Rattle.world_heap.specs.Over.{ListOver}
 use Rattle.js_tree.specs.declared.node.NodeId.{NodeId}
 use Rattle.js_tree.specs.declared.node.Node.{Node}
+use Rattle.js_tree.specs.declared.node.Node.TheVariants as kinds
 use Rattle.js_semantics.specs.declared.scope.Scope.{Scope}
 use Rattle.js_machine.specs.declared.frame.CallTarget.{CallTarget}
 use Rattle.js_machine.specs.declared.state.State.{State}
@@ -13,6 +14,11 @@ use Rattle.js_machine.specs.Does.{Does, Moves}
 use Rattle.js_machine.specs.Frames.{arguments_rest}
 use Rattle.js_step_call.specs.declared.leading.Leading.{Leading}
 use Rattle.js_step_call.specs.declared.leading.Leading.TheVariants.{Values, Ended}
+
+-- whether a node is a spread, which is any number of arguments
+unfoldable pub spreads : Option Node → Bool
+spreads (Some (kinds.Spread list)) = true
+spreads other = false
 
 module _ (nodes : List Node) (node : NodeId) (scope : Scope ℕ) where
   -- The arguments before a place have these values; those from there on are left.

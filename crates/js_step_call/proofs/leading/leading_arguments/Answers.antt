@@ -1,15 +1,14 @@
-use Rattle.std.proofs.Common.{◌≡◌, ◌∷◌, drop, slice_get}
+use Rattle.std.proofs.Common.{◌≡◌, ◌∷◌, List, drop, length, slice_get, sym, ap, ◌∙◌, arith}
 use Rattle.std.proofs.lemmas.Result.{err_from_is_err_and}
+use Rattle.js_tree.specs.declared.node.NodeId.{NodeId}
 use Rattle.js_names.specs.Patterns.{nodes_of}
 use Rattle.world_heap.proofs.Wells.{list_push}
 use Rattle.js_machine.specs.Closed.{ValueFits}
-use Rattle.js_machine.specs.Does.{world_of}
 use Rattle.js_machine.specs.Parts.{items_of}
 use Rattle.js_machine.proofs.Closing.{goes_on, scope_grown, stays_closed, values_grown}
 use Rattle.js_machine.proofs.Doing.{moves_still}
-use Rattle.js_primary.specs.AtHand.{at_hand}
 use Rattle.js_primary.proofs.Evaluating.{not_taken}
-use Rattle.js_step_call.proofs.Arguments.{fewer_steps, reaches_ended, reaches_on}
+use Rattle.js_step_call.proofs.Arguments.{reaches_ended, reaches_on}
 use Rattle.js_step_call.proofs.leading.leading_arguments.Goals as goal
 
 pub leading-init : goal.leading-init
@@ -23,7 +22,7 @@ leading-preserved c =
     let value = c.in-Value.value in
     let list : drop c.leading.at (items_of (slice_get nodes c.args.node.0)) ≡ c.in-Some.argument ∷ drop c.in-Some.next (items_of (slice_get nodes c.args.node.0)) = cc (c.items_of-list.ensures, c.in-Some.ensures.0) in
     rw c.in_ok-push-in-Value.ensures.ok (record {
-      reaches = reaches_on nodes c.args.node c.args.scope.now c.args.state.now old new c.leading.at c.in-Some.next c.in-Some.argument c.leading.before _ list c.in_ok-value.ensures.is c.in_ok-value.ensures.does c.leading.invariant.reaches value c.in-Value.is;
+      reaches = reaches_on nodes c.args.node c.args.scope.now c.args.state.now old new c.leading.at c.in-Some.next c.in-Some.argument c.leading.before _ list (sym c.is_spread.ensures ∙ c.if-is_spread.false) c.in_ok-value.ensures.does c.leading.invariant.reaches value c.in-Value.is;
       closed = λ closed scope.
           let (so, fit) = c.leading.invariant.closed closed scope in
           let went = c.in_ok-value.ensures.closed so.closed (scope_grown nodes c.args.state.now.heap.cells old.heap.cells so.grows c.args.scope.now scope) in
@@ -31,16 +30,13 @@ leading-preserved c =
     })
 
 pub leading-smaller : goal.leading-smaller
-leading-smaller c =
-    let nodes = nodes_of c.args.tree.now in
-    let old = c.leading.state in
-    fewer_steps (at_hand (slice_get nodes c.in-Some.argument.0) c.args.scope.now (world_of nodes (λ n. n) old)) old c.take_value.new.state _ c.in-Value.value (c.in_ok-value.ensures.is (λ n. n)) c.in-Value.is
+leading-smaller c = let e = ap (λ (l : List NodeId). length l) c.in-Some.ensures.0 in omega arith
 
 pub returns-in-Ended-clause-does : goal.returns-in-Ended-clause-does
 returns-in-Ended-clause-does c =
     let nodes = nodes_of c.args.tree.now in
     let list : drop c.leading.at (items_of (slice_get nodes c.args.node.0)) ≡ c.in-Some.argument ∷ drop c.in-Some.next (items_of (slice_get nodes c.args.node.0)) = cc (c.items_of-list.ensures, c.in-Some.ensures.0) in
-    reaches_ended nodes c.args.node c.args.scope.now c.args.state.now c.leading.state c.take_value.new.state c.leading.at c.in-Some.next c.in-Some.argument c.leading.before _ list c.in_ok-value.ensures.is c.in_ok-value.ensures.does c.leading.invariant.reaches c.in-Ended.ended c.in-Ended.is
+    reaches_ended nodes c.args.node c.args.scope.now c.args.state.now c.leading.state c.take_value.new.state c.leading.at c.in-Some.next c.in-Some.argument c.leading.before _ list (sym c.is_spread.ensures ∙ c.if-is_spread.false) c.in_ok-value.ensures.does c.leading.invariant.reaches c.in-Ended.ended c.in-Ended.is
 
 pub returns-in-Nothing-clause-does : goal.returns-in-Nothing-clause-does
 returns-in-Nothing-clause-does c =

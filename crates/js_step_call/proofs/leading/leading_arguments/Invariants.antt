@@ -1,3 +1,4 @@
+use Rattle.std.proofs.Common.{drop, length}
 use Rattle.js_names.specs.Patterns.{nodes_of}
 use Rattle.world_heap.specs.Over.{ListOver}
 use Rattle.js_machine.specs.Closed.{GoesOn, IsClosed, ScopeFits, ValueFits}
@@ -12,4 +13,4 @@ invariant-leading l = record {
 }
 
 abbrev pub decreases-leading : goal.decreases-leading
-decreases-leading l = l.state.steps
+decreases-leading l = length (drop l.at l.list)
