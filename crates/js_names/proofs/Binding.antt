@@ -1,23 +1,25 @@
 -- Names of environments that get values.
-use Rattle.std.proofs.Common.{◌≡◌, ◌<◌, ◌+◌, ℕ, suc, true, false, List, [], ◌∷◌, length, Option, Some, None, set, get_or, nat_eq, if◌then◌else◌, cond, refl, ap, sym, ◌∙◌, subst, arith}
+use Rattle.std.proofs.Common.{◌≡◌, ◌<◌, ◌+◌, ℕ, suc, true, false, List, [], ◌∷◌, length, Option, Some, None, set, get_or, slice_get, nat_eq, if◌then◌else◌, cond, refl, ap, sym, ◌∙◌, subst, arith}
 use Rattle.std.specs.List.{position_from}
 use Rattle.std.specs.Cmp.Lexicographic.{same_text as texts_same}
 use Rattle.std.proofs.lemmas.Bool.Decides.{nat_tests}
 use Rattle.std.proofs.lemmas.Iterator.Adapters.{position_from-zero}
+use Rattle.std.proofs.lemmas.Option.{get_or_from_slice_get}
+use Rattle.std.specs.Option.{option_map_or}
 use Rattle.world_heap.specs.declared.value.Value.{Value}
 use Rattle.world_heap.specs.declared.cell.Binding.{Binding}
 use Rattle.world_heap.specs.declared.cell.Cell.{Cell}
 use Rattle.world_heap.specs.declared.cell.Cell.TheVariants.{Object, Array, Closure, Native, Far, Error, Map, Set, Promise, Port, Buffer, View, Symbol, Env}
-use Rattle.world_heap.specs.Maps.{find, put, find-put, keys-put, Stands}
+use Rattle.world_heap.specs.Maps.{find, put}
 use Rattle.world_heap.specs.Over.{ListOver, OptionOver, ValueOver}
-use Rattle.world_heap.specs.Heaps.{IsNoEnv, IsCell, Fits, IsWell}
+use Rattle.world_heap.specs.Bodies.{bound_at, with_binding}
+use Rattle.world_heap.specs.Heaps.{IsCell}
 use Rattle.world_heap.specs.Views.{HeapView}
-use Rattle.world_heap.proofs.Wells.{Alike, well_put, put_kept, fits_kept, fits_found, found_stands}
-use Rattle.world_heap.proofs.Bodying.{put-put}
+use Rattle.world_heap.proofs.Wells.{found_stands}
 use Rattle.js_semantics.specs.World.{World, over}
 use Rattle.js_semantics.specs.Properties.{same_text}
 use Rattle.js_semantics.specs.Environments.{rebound, bound_in, bind_in, binding_of, fill_name}
-use Rattle.js_names.specs.Places.{place_in, place_under, cells_bound}
+use Rattle.js_names.specs.Places.{place_in, place_under, binding_under, cells_bound}
 
 -- the bindings with a name's value, by the name's place
 filled_from : (n i : ℕ) (bs : List (Binding ℕ)) (name : List ℕ) (v : Value ℕ) (d : Binding ℕ) → position_from (λ (b : Binding ℕ). same_text b.name name) n bs ≡ Some i
@@ -113,31 +115,22 @@ rebound_fits P (b ∷ bs) name v fit h =
       | false ↦ (h.0, rebound_fits P bs name v fit h.1)
     ]
 
--- an environment that is taken out of a heap, and put back with a value more
-module _ (cells : List (ℕ × Cell ℕ)) (env : ℕ) (outer : Option ℕ) (bs : List (Binding ℕ)) (found : find nat_eq cells env ≡ Some (Env outer bs)) where
-  abbrev pub blank : Cell ℕ
-  blank = Env None []
+-- what stands in a place of a name is written as a binding of that name
+pub bound_binding : (cells : List (ℕ × Cell ℕ)) (env place : ℕ) (name : List ℕ) (v : Value ℕ) (was : Binding ℕ) → place_under (find nat_eq cells env) name ≡ Some place → binding_under (find nat_eq cells env) place ≡ Some was
+    → bound_at cells env place (record { name = name; value = Some v; fixed = was.fixed }) ≡ cells_bound (find nat_eq cells env) cells env name v
+bound_binding cells env place name v was here there =
+    let found = place_env (find nat_eq cells env) name place here in
+    let outer = found.0 in
+    let bs = found.1 in
+    let new : Binding ℕ = record { name = name; value = Some v; fixed = was.fixed } in
+    let at : slice_get bs place ≡ Some was = sym (ap (λ o. binding_under o place) found.2) ∙ there in
+    let same : set bs place new ≡ rebound bs name v = ap (λ (b : Binding ℕ). set bs place (record { name = name; value = Some v; fixed = b.fixed })) (sym (get_or_from_slice_get bs place was was at)) ∙ (filled_place bs name place v was found.3).1 in
+    ap (λ o. option_map_or (λ c. put nat_eq cells env (with_binding c place new)) o cells) found.2
+    ∙ ap (λ cs. put nat_eq cells env (Env outer cs)) same
+    ∙ sym (ap (λ o. cells_bound o cells env name v) found.2)
 
-  alike : Alike (Env outer bs) blank
-  alike = record { env = refl; proto = refl; bytes = refl }
-
-  pub env_stands : IsCell nat_eq cells env
-  env_stands = found_stands cells env (Env outer bs) found
-
-  pub blank_well : IsWell nat_eq cells → IsWell nat_eq (put nat_eq cells env blank)
-  blank_well well = well_put cells env blank (Env outer bs) found alike well (tt, tt)
-
-  pub blank_stands : IsCell nat_eq (put nat_eq cells env blank) env
-  blank_stands = subst (λ ks. Stands ks env) (sym (keys-put cells env blank)) env_stands
-
-  pub back_well : (name : List ℕ) (v : Value ℕ) → IsWell nat_eq cells → ValueOver (IsNoEnv nat_eq cells) v → IsWell nat_eq (put nat_eq cells env blank) → IsWell nat_eq (put nat_eq (put nat_eq cells env blank) env (Env outer (rebound bs name v)))
-  back_well name v well fit well_blank =
-      let same : nat_eq env env ≡ true = grind (arith, nat_tests) in
-      let there : find nat_eq (put nat_eq cells env blank) env ≡ Some blank = find-put cells env blank env env_stands ∙ ap (λ b. if b then Some blank else find nat_eq cells env) same in
-      let old : Fits nat_eq cells (Env outer bs) = fits_found (Fits nat_eq cells) cells env (Env outer bs) well.fits found in
-      let new : Fits nat_eq cells (Env outer (rebound bs name v)) = (old.0, rebound_fits (IsNoEnv nat_eq cells) bs name v fit old.1) in
-      let moved : Fits nat_eq (put nat_eq cells env blank) (Env outer (rebound bs name v)) = fits_kept cells (put nat_eq cells env blank) (put_kept cells env blank (Env outer bs) found alike) (Env outer (rebound bs name v)) new in
-      well_put (put nat_eq cells env blank) env (Env outer (rebound bs name v)) blank there (record { env = refl; proto = refl; bytes = refl }) well_blank moved
-
-  pub back_is : (name : List ℕ) (v : Value ℕ) → put nat_eq (put nat_eq cells env blank) env (Env outer (rebound bs name v)) ≡ cells_bound (find nat_eq cells env) cells env name v
-  back_is name v = put-put cells env blank (Env outer (rebound bs name v)) ∙ sym (ap (λ o. cells_bound o cells env name v) found)
+-- the place of a name that stands is that of a cell
+pub place_stands : (cells : List (ℕ × Cell ℕ)) (env place : ℕ) (name : List ℕ) → place_under (find nat_eq cells env) name ≡ Some place → IsCell nat_eq cells env
+place_stands cells env place name here =
+    let found = place_env (find nat_eq cells env) name place here in
+    found_stands cells env (Env found.0 found.1) found.2

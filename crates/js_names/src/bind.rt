@@ -1,16 +1,13 @@
 //! Names of environments that get values (ECMA-262, 9.1.1.1.4 and 9.1.1.1.5).
-ghost use Rattle.std.specs.Prelude.{◌≡◌, ℕ, Some, IsTrue, MatchResult, OnOk, OnErr, nat_eq};
-ghost use Rattle.world_heap.specs.Maps.{find};
+ghost use Rattle.std.specs.Prelude.{◌≡◌, ℕ, IsTrue, MatchResult, OnOk, OnErr, nat_eq};
 ghost use Rattle.world_heap.specs.Over.{ValueOver};
-ghost use Rattle.world_heap.specs.Heaps.{IsNoEnv, IsWell};
+ghost use Rattle.world_heap.specs.Heaps.{IsNoEnv};
 ghost use Rattle.js_semantics.specs.World.{World, over};
-ghost use Rattle.js_semantics.specs.Environments.{rebound, bind_in, fill_name};
+ghost use Rattle.js_semantics.specs.Environments.{bind_in, fill_name};
 ghost use Rattle.js_names.specs.Growing.{Grows};
-ghost use Rattle.js_names.specs.Places.{place_in, place_under, cells_bound};
 
 use crate::place::{binding_of, place_at};
 use js_semantics::StepFault;
-use sqlite_items::Items;
 use std::alloc::Global;
 use wl_text::Units;
 use world_heap::{Binding, Cell, Heap, Loc, Value};
@@ -44,45 +41,6 @@ fn may_stand(heap: &Heap, value: &Value) -> bool
     }
 }
 
-// Gives a binding its value.
-fn fill(bindings: &mut Items<Binding>, place: usize, name: Units, value: Value)
-    requires { place_in bindings.old name ≡ Some place }
-    ensures { bindings.new ≡ rebound bindings.old name value }
-{
-    let fixed = bindings.as_slice()[place].fixed;
-    bindings.set(
-        place,
-        Binding {
-            name,
-            value: Some(value),
-            fixed,
-        },
-    );
-}
-
-// Gives a name of an environment its value, by its place.
-fn fill_at(alloc: Global, heap: &mut Heap, env: Loc, place: usize, name: Units, value: Value)
-    requires place { place_under (find nat_eq heap.old.cells env) name ≡ Some place }
-    requires value { ValueOver (IsNoEnv nat_eq heap.old.cells) value }
-    requires well { IsWell nat_eq heap.old.cells }
-    ensures { heap.new ≡ record heap.old { cells = cells_bound (find nat_eq heap.old.cells env) heap.old.cells env name value } }
-{
-    let blank = Cell::Env {
-        outer: None,
-        bindings: Items::new(alloc),
-    };
-    match heap.replace(env, blank) {
-        Cell::Env {
-            outer,
-            mut bindings,
-        } => {
-            fill(&mut bindings, place, name, value);
-            discard(heap.replace(env, Cell::Env { outer, bindings }));
-        }
-        _ => unreachable!(),
-    }
-}
-
 /// Gives a name of an environment a value (ECMA-262, 9.1.1.1.4: InitializeBinding, and 9.1.1.1.5: SetMutableBinding,
 /// whose tests the caller makes). Where the location is no environment, or the environment doesn't bind the name,
 /// nothing changes.
@@ -107,7 +65,7 @@ pub fn bind_in(
         return Err(StepFault::Dangling);
     }
     match place_at(heap, env, name) {
-        Some(place) => {
+        Some((place, fixed)) => {
             let name = match name.copy(alloc) {
                 Ok(name) => name,
                 Err(_) => {
@@ -115,7 +73,8 @@ pub fn bind_in(
                     return Err(StepFault::Memory);
                 }
             };
-            fill_at(alloc, heap, env, place, name, value);
+            let value = Some(value);
+            heap.set_binding(env, place, Binding { name, value, fixed });
             Ok(())
         }
         None => {

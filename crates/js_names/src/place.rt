@@ -1,10 +1,10 @@
 //! Where a name is bound (ECMA-262, 9.1.1.1 and 9.1.2.1).
-ghost use Rattle.std.specs.Prelude.{◌≡◌, ℕ, Some, None, MatchOption, option_map, nat_eq};
+ghost use Rattle.std.specs.Prelude.{◌≡◌, ℕ, Some, None, IfSome, MatchOption, option_map, nat_eq};
 ghost use Rattle.world_heap.specs.Maps.{find};
-ghost use Rattle.world_heap.specs.Heaps.{IsWell};
+ghost use Rattle.world_heap.specs.declared.cell.Binding as kept;
 ghost use Rattle.js_semantics.specs.World.{World, over};
 ghost use Rattle.js_semantics.specs.Environments.{binding_of};
-ghost use Rattle.js_names.specs.Places.{place_in, seen_in, place_under, binding_under, placed};
+ghost use Rattle.js_names.specs.Places.{place_in, seen_in, place_under, binding_under};
 
 use wl_text::Units;
 use world_heap::{Binding, Cell, Heap, Loc};
@@ -40,39 +40,32 @@ fn look(cell: &Cell, name: &Units) -> Seen
     }
 }
 
-/// The place of a name among the bindings of an environment record (ECMA-262, 9.1.1); none where the location is that of
-/// no environment, or the environment doesn't bind the name. The cost is linear in the environment's bindings.
-pub fn place_at(heap: &Heap, env: Loc, name: &Units) -> Option<usize>
-    ensures is { result ≡ place_under (find nat_eq heap.now.cells env) name.now }
-    ensures well { IsWell nat_eq heap.now.cells }
+// The place of a name among the bindings of a cell, and whether the binding there is fixed.
+fn place_in(cell: &Cell, name: &Units) -> Option<(usize, bool)>
+    ensures place { option_map (λ found. found.0) result ≡ place_under (Some cell.now) name.now }
+    ensures fixed { IfSome result (λ found. (binding : kept.Binding ℕ) × (binding_under (Some cell.now) found.0 ≡ Some binding) × (binding.fixed ≡ found.1)) }
 {
-    match heap.get(env) {
-        Some(cell) => match look(cell, name) {
-            Seen::Here(place) => Some(place),
-            _ => None,
-        },
-        None => None,
+    match cell {
+        Cell::Env { bindings, .. } => {
+            let bindings = bindings.as_slice();
+            let place = place_among(bindings, name)?;
+            Some((place, bindings[place].fixed))
+        }
+        _ => None,
     }
 }
 
-// The innermost environment that binds a name, and the name's place there.
-fn place_of(heap: &Heap, env: Loc, name: &Units) -> Option<(Loc, usize)>
-    ensures { (w : World ℕ) → placed (find nat_eq heap.now.cells) result ≡ binding_of env name.now (over heap.now w) }
+/// The place of a name among the bindings of an environment record (ECMA-262, 9.1.1), and whether the binding there is
+/// fixed; none where the location is that of no environment, or the environment doesn't bind the name. The cost is linear
+/// in the environment's bindings.
+pub fn place_at(heap: &Heap, env: Loc, name: &Units) -> Option<(usize, bool)>
+    ensures place { option_map (λ found. found.0) result ≡ place_under (find nat_eq heap.now.cells env) name.now }
+    ensures fixed { IfSome result (λ found. (binding : kept.Binding ℕ) × (binding_under (find nat_eq heap.now.cells env) found.0 ≡ Some binding) × (binding.fixed ≡ found.1)) }
 {
-    let mut at = env;
-    let mut left = heap.len();
-    'environments: while left > 0 {
-        left -= 1;
-        match heap.get(at) {
-            Some(cell) => match look(cell, name) {
-                Seen::Here(place) => return Some((at, place)),
-                Seen::Outer(outer) => at = outer,
-                Seen::Nowhere => return None,
-            },
-            None => return None,
-        }
+    match heap.get(env) {
+        Some(cell) => place_in(cell, name),
+        None => None,
     }
-    None
 }
 
 // The binding at a place of a cell.
@@ -92,15 +85,16 @@ fn binding_in(cell: &Cell, place: usize) -> Option<&Binding>
 pub fn binding_of<'a>(heap: &'a Heap, env: Loc, name: &Units) -> Option<(Loc, &'a Binding)>
     ensures { (w : World ℕ) → option_map (λ found. (found.0, found.1.now)) result ≡ binding_of env name.now (over heap.now w) }
 {
-    let (at, place) = match place_of(heap, env, name) {
-        Some(found) => found,
-        None => return None,
-    };
-    match heap.get(at) {
-        Some(cell) => match binding_in(cell, place) {
-            Some(binding) => Some((at, binding)),
-            None => None,
-        },
-        None => None,
+    let mut at = env;
+    let mut left = heap.len();
+    'environments: while left > 0 {
+        left -= 1;
+        let cell = heap.get(at)?;
+        match look(cell, name) {
+            Seen::Here(place) => return Some((at, binding_in(cell, place)?)),
+            Seen::Outer(outer) => at = outer,
+            Seen::Nowhere => return None,
+        }
     }
+    None
 }

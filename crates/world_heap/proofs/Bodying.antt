@@ -1,13 +1,14 @@
 -- A cell whose body is exchanged.
-use Rattle.std.proofs.Common.{◌≡◌, ℕ, true, false, List, [], ◌∷◌, Some, None, Option, refl, sym, ap, ◌∙◌, subst, nat_eq, if◌then◌else◌, length-set}
+use Rattle.std.proofs.Common.{◌≡◌, ℕ, zero, suc, true, false, List, [], ◌∷◌, Some, None, Option, refl, sym, ap, ◌∙◌, subst, nat_eq, if◌then◌else◌, length-set, set}
 use Rattle.std.specs.Option.{option_and_then, option_map_or}
+use Rattle.world_heap.specs.declared.cell.Binding.{Binding}
 use Rattle.world_heap.specs.declared.cell.Body.{Body}
 use Rattle.world_heap.specs.declared.cell.Cell.{Cell}
 use Rattle.world_heap.specs.Maps.{keys, find, put, Stands, keys-put}
 use Rattle.world_heap.specs.Shelf.{values_of, IsAmong}
-use Rattle.world_heap.specs.Bodies.{body_of, with_body, with_byte, rebodied, rewritten}
+use Rattle.world_heap.specs.Bodies.{body_of, with_body, with_byte, with_binding, rebodied, rewritten, bound_at}
 use Rattle.world_heap.specs.declared.cell.Cell.TheVariants.{Object, Array, Closure, Native, Far, Error, Map, Set, Promise, Port, Buffer, View, Symbol, Env}
-use Rattle.world_heap.specs.Over.{BodyOver, CellOver}
+use Rattle.world_heap.specs.Over.{BodyOver, CellOver, ListOver, OptionOver, ValueOver}
 use Rattle.world_heap.specs.Heaps.{IsNoEnv, IsCell, IsWithin, Fits, IsWell}
 use Rattle.world_heap.proofs.Wells.{Alike, well_put, fits_found}
 use Rattle.world_heap.proofs.Pooling.{values-put}
@@ -145,3 +146,26 @@ pub well_rewrite : (cells : List (ℕ × Cell ℕ)) (l at byte : ℕ) (c : Cell 
 well_rewrite cells l at byte c found well =
     let fit = fits_found (Fits nat_eq cells) cells l c well.fits found in
     well_put cells l (with_byte c at byte) c found (alike_byte c at byte) well (byte_fits (IsNoEnv nat_eq cells) (IsCell nat_eq cells) (IsWithin nat_eq cells) c at byte fit)
+
+pub bound_is : (cells : List (ℕ × Cell ℕ)) (l : ℕ) (c : Cell ℕ) (at : ℕ) (b : Binding ℕ) → find nat_eq cells l ≡ Some c → bound_at cells l at b ≡ put nat_eq cells l (with_binding c at b)
+bound_is cells l c at b h = ap (λ o. option_map_or (λ d. put nat_eq cells l (with_binding d at b)) o cells) h
+
+-- An environment with another binding is alike, and fits where the binding's value does.
+pub alike_binding : (c : Cell ℕ) (at : ℕ) (b : Binding ℕ) → Alike c (with_binding c at b)
+alike_binding (Env o bs) at b = record { env = refl; proto = refl; bytes = refl }
+alike_binding other at b = record { env = refl; proto = refl; bytes = refl }
+
+bindings_fit : (P : ℕ → Type 0) (bs : List (Binding ℕ)) (at : ℕ) (b : Binding ℕ) → OptionOver (ValueOver P) b.value → ListOver (λ (x : Binding ℕ). OptionOver (ValueOver P) x.value) bs → ListOver (λ (x : Binding ℕ). OptionOver (ValueOver P) x.value) (set bs at b)
+bindings_fit P [] at b fit h = tt
+bindings_fit P (x ∷ bs) zero b fit h = (fit, h.1)
+bindings_fit P (x ∷ bs) (suc at) b fit h = (h.0, bindings_fit P bs at b fit h.1)
+
+binding_fits : (P E : ℕ → Type 0) (V : ℕ → ℕ → ℕ → Type 0) (c : Cell ℕ) (at : ℕ) (b : Binding ℕ) → OptionOver (ValueOver P) b.value → CellOver P E V c → CellOver P E V (with_binding c at b)
+binding_fits P E V (Env o bs) at b fit h = (h.0, bindings_fit P bs at b fit h.1)
+binding_fits P E V other at b fit h = h
+
+-- A well heap stays well where a binding is written whose value fits.
+pub well_bind : (cells : List (ℕ × Cell ℕ)) (l at : ℕ) (b : Binding ℕ) (c : Cell ℕ) → find nat_eq cells l ≡ Some c → OptionOver (ValueOver (IsNoEnv nat_eq cells)) b.value → IsWell nat_eq cells → IsWell nat_eq (put nat_eq cells l (with_binding c at b))
+well_bind cells l at b c found fit well =
+    let old = fits_found (Fits nat_eq cells) cells l c well.fits found in
+    well_put cells l (with_binding c at b) c found (alike_binding c at b) well (binding_fits (IsNoEnv nat_eq cells) (IsCell nat_eq cells) (IsWithin nat_eq cells) c at b fit old)

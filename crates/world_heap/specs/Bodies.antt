@@ -2,6 +2,7 @@
 use Rattle.std.specs.Prelude.{◌≡◌, ℕ, List, Option, Some, None, slice_set, nat_eq}
 use Rattle.std.specs.Option.{option_and_then, option_map_or}
 use Rattle.world_heap.specs.Maps.{find, put}
+use Rattle.world_heap.specs.declared.cell.Binding.{Binding}
 use Rattle.world_heap.specs.declared.cell.Body.{Body}
 use Rattle.world_heap.specs.declared.cell.Cell.{Cell}
 use Rattle.world_heap.specs.declared.cell.Cell.TheVariants.{Object, Array, Closure, Native, Far, Error, Map, Set, Promise, Port, Buffer, View, Symbol, Env}
@@ -58,6 +59,11 @@ module _ {L : Type 0} where
   with_byte (Symbol t) at byte = Symbol t
   with_byte (Env o bs) at byte = Env o bs
 
+  -- an environment with another binding at a place
+  abbrev pub with_binding : Cell L → ℕ → Binding L → Cell L
+  with_binding (Env o bs) at binding = Env o (slice_set bs at binding)
+  with_binding other at binding = other
+
 -- the location of a cell with a body
 abbrev pub HasBody : List (ℕ × Cell ℕ) → ℕ → Type 0
 HasBody cells l = (b : Body ℕ) × (option_and_then body_of (find nat_eq cells l) ≡ Some b)
@@ -69,3 +75,7 @@ rebodied cells l b = option_map_or (λ c. put nat_eq cells l (with_body c b)) (f
 -- the heap with another byte in the buffer at a location
 abbrev pub rewritten : List (ℕ × Cell ℕ) → ℕ → ℕ → ℕ → List (ℕ × Cell ℕ)
 rewritten cells l at byte = option_map_or (λ c. put nat_eq cells l (with_byte c at byte)) (find nat_eq cells l) cells
+
+-- the heap with another binding at a place of the environment at a location
+abbrev pub bound_at : List (ℕ × Cell ℕ) → ℕ → ℕ → Binding ℕ → List (ℕ × Cell ℕ)
+bound_at cells l at binding = option_map_or (λ c. put nat_eq cells l (with_binding c at binding)) (find nat_eq cells l) cells

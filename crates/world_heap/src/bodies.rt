@@ -1,9 +1,9 @@
-//! The bodies of cells.
+//! The bodies of cells, and the parts of them that are written in place.
 ghost use Rattle.std.specs.Prelude.{◌≡◌, slice_set};
 ghost use Rattle.std.specs.Option.{option_copied};
-ghost use Rattle.world_heap.specs.Bodies.{body_of, with_body, with_byte};
+ghost use Rattle.world_heap.specs.Bodies.{body_of, with_binding, with_body, with_byte};
 
-use crate::cell::{Body, Cell};
+use crate::cell::{Binding, Body, Cell};
 use crate::store::discard;
 use sqlite_items::Items;
 
@@ -131,5 +131,26 @@ fn put_byte(bytes: &mut Items<u8>, at: usize, byte: u8)
 {
     if at < bytes.len() {
         bytes.set(at, byte);
+    }
+}
+
+// Puts a binding in the place of another of an environment, where it has one there; another cell stays as it is.
+pub(crate) fn bind(cell: &mut Cell, at: usize, binding: Binding)
+    ensures { cell.new ≡ with_binding cell.old at binding }
+{
+    match cell {
+        Cell::Env { bindings, .. } => put_binding(bindings, at, binding),
+        _ => discard(binding),
+    }
+}
+
+// Another binding at a place, where there is one.
+fn put_binding(bindings: &mut Items<Binding>, at: usize, binding: Binding)
+    ensures { bindings.new ≡ slice_set bindings.old at binding }
+{
+    if at < bindings.len() {
+        bindings.set(at, binding);
+    } else {
+        discard(binding);
     }
 }

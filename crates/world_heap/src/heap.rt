@@ -2,19 +2,19 @@
 ghost use Rattle.std.specs.Prelude.{◌≡◌, ℕ, ◌+◌, ◌-◌, ◌^◌, ◌<◌, ◌≤◌, ◌∷◌, [], List, Some, None, false, MatchOption, OnOk, OnErr, IfOk, IfSome, length, slice_get, nat_eq};
 ghost use Rattle.world_heap.specs.Maps.{keys, find, put, without, stands, Stands};
 ghost use Rattle.world_heap.specs.Shelf.{values_of};
-ghost use Rattle.world_heap.specs.Over.{OptionOver};
+ghost use Rattle.world_heap.specs.Over.{OptionOver, ValueOver};
 ghost use Rattle.world_heap.specs.Heaps.{IsNoEnv, IsCell, Fits, IsWell};
 ghost use Rattle.world_heap.specs.BuiltIns.{plain_object, objects, place_of};
 ghost use Rattle.world_heap.specs.Views.{IsCounted, IsOwned};
 ghost use Rattle.std.specs.Option.{option_and_then};
-ghost use Rattle.world_heap.specs.Bodies.{body_of, HasBody, rebodied, rewritten};
+ghost use Rattle.world_heap.specs.Bodies.{body_of, HasBody, bound_at, rebodied, rewritten};
 ghost use Rattle.world_heap.specs.Growth.{grown, first_passed, Adds, Grows};
 ghost use Rattle.world_heap.specs.Bounded.{bounds_of};
 ghost use Rattle.world_heap.specs.Starting.{IsNew, empty_heap, with_built_in};
 
 use crate::bodies::{exchanged, written};
 use crate::builtin::{BuiltIn, place_number};
-use crate::cell::{Body, Cell};
+use crate::cell::{Binding, Body, Cell};
 use crate::limits::{Counts, Full, HeapFault, Limits};
 use crate::pool::{Pool, Seat};
 use crate::size::{place_count, unit_count};
@@ -295,6 +295,16 @@ impl Heap {
             .replace(loc.number(), Cell::Symbol { text: None });
         let cell = written(cell, at, byte);
         discard(self.store.replace(loc.number(), cell));
+    }
+
+    /// Puts a binding in the place of another of an environment, where it has one there; another cell stays as it is. It
+    /// takes no memory, counts nothing, and its cost is constant.
+    pub fn set_binding(&mut self, env: Loc, place: usize, binding: Binding)
+        requires stands { IsCell nat_eq self.old.cells env }
+        requires fits { OptionOver (ValueOver (IsNoEnv nat_eq self.old.cells)) binding.value }
+        ensures { self.new ≡ record self.old { cells = bound_at self.old.cells env place binding } }
+    {
+        self.store.set_binding(env.number(), place, binding);
     }
 
     /// How many cells there are, those that are built in among them.

@@ -1,10 +1,14 @@
 //! Values of several owners in one store of slots, each owner's in the order in which they came.
 ghost use Rattle.std.specs.Prelude.{◌≡◌, ◌↔◌, IsTrue, ℕ, ◌+◌, ◌<◌, ◌≤◌, ◌++◌, [], ◌∷◌, Some, None, false, length, replicate, position, slice_get, slice_index_or, ◌==◌, sum_by, nat_eq, MatchOption, OnOk, OnErr, IfOk};
 ghost use Rattle.cell_chunks.specs.Slots.{vacancies};
+ghost use Rattle.world_heap.specs.Bodies.{with_binding};
+ghost use Rattle.world_heap.specs.declared.cell.Cell as kept;
 ghost use Rattle.world_heap.specs.Maps.{keys, find, put, without, stands, Stands};
 ghost use Rattle.world_heap.specs.Shelf.{values_of, IsAmong, Apart};
 ghost use Rattle.world_heap.specs.Stored.{owners, IsAt, IsDistinct};
 
+use crate::bodies::bind;
+use crate::cell::{Binding, Cell};
 use cell_chunks::{Chunks, Slot};
 use sqlite_items::Items;
 use std::alloc::{AllocError, Global};
@@ -220,5 +224,16 @@ impl<T: Drop> Store<T> {
             discard(self.chunks.take(Slot(loc)));
             self.marks[loc as usize] = None;
         }
+    }
+}
+
+impl Store<Cell> {
+    /// Puts a binding in the place of another of an environment, where it has one there; another cell stays as it is.
+    pub fn set_binding(&mut self, loc: u32, place: usize, binding: Binding)
+        requires { (owner : ℕ) × IsAmong self.old owner loc }
+        ensures { (owner : ℕ) (cell : kept.Cell ℕ) → find nat_eq (values_of self.old owner) loc ≡ Some cell
+            → self.new ≡ put nat_eq self.old owner (put nat_eq (values_of self.old owner) loc (with_binding cell place binding)) }
+    {
+        bind(self.chunks.get_mut(Slot(loc)), place, binding);
     }
 }

@@ -3,7 +3,7 @@ use Rattle.world_heap.specs.Maps.{find}
 use Rattle.js_semantics.specs.World.{over}
 use Rattle.js_semantics.specs.Environments.{binding_within, binding_of}
 use Rattle.js_names.proofs.Placing.{turn, turn_none, went}
-use Rattle.js_names.proofs.place.place_of.Goals as goal
+use Rattle.js_names.proofs.place.binding_of.Goals as goal
 
 pub returns-in-Here : goal.returns-in-Here
 unfolding binding_of
