@@ -1,17 +1,15 @@
 -- A cell whose body is exchanged.
-use Rattle.std.proofs.Common.{◌≡◌, ℕ, zero, suc, true, false, List, [], ◌∷◌, Some, None, Option, refl, sym, ap, ◌∙◌, subst, nat_eq, if◌then◌else◌, length-set, set}
+use Rattle.std.proofs.Common.{◌≡◌, ℕ, zero, suc, List, [], ◌∷◌, Some, None, Option, refl, sym, ap, ◌∙◌, subst, nat_eq, length-set, set}
 use Rattle.std.specs.Option.{option_and_then, option_map_or}
 use Rattle.world_heap.specs.declared.cell.Binding.{Binding}
 use Rattle.world_heap.specs.declared.cell.Body.{Body}
 use Rattle.world_heap.specs.declared.cell.Cell.{Cell}
-use Rattle.world_heap.specs.Maps.{keys, find, put, Stands, keys-put}
-use Rattle.world_heap.specs.Shelf.{values_of, IsAmong}
+use Rattle.world_heap.specs.Maps.{find, put}
 use Rattle.world_heap.specs.Bodies.{body_of, with_body, with_byte, with_binding, rebodied, rewritten, bound_at}
 use Rattle.world_heap.specs.declared.cell.Cell.TheVariants.{Object, Array, Closure, Native, Far, Error, Map, Set, Promise, Port, Buffer, View, Symbol, Env}
 use Rattle.world_heap.specs.Over.{BodyOver, CellOver, ListOver, OptionOver, ValueOver}
 use Rattle.world_heap.specs.Heaps.{IsNoEnv, IsCell, IsWithin, Fits, IsWell}
 use Rattle.world_heap.proofs.Wells.{Alike, well_put, fits_found}
-use Rattle.world_heap.proofs.Pooling.{values-put}
 
 pub has_cell : (cells : List (ℕ × Cell ℕ)) (l : ℕ) (b : Body ℕ) → option_and_then body_of (find nat_eq cells l) ≡ Some b → (c : Cell ℕ) × (find nat_eq cells l ≡ Some c) × (body_of c ≡ Some b)
 has_cell cells l b h = by (find nat_eq cells l) refl h
@@ -20,6 +18,7 @@ has_cell cells l b h = by (find nat_eq cells l) refl h
     by None e h = absurd (cc)
     by (Some c) e h = (c, e, h)
 
+-- a key is written twice
 pub put-put : {C : Type 0} (cs : List (ℕ × C)) (l : ℕ) (x y : C) → put nat_eq (put nat_eq cs l x) l y ≡ put nat_eq cs l y
 put-put [] l x y = refl
 put-put (c ∷ cs) l x y =
@@ -30,21 +29,6 @@ put-put (c ∷ cs) l x y =
 
 pub rebodied_is : (cells : List (ℕ × Cell ℕ)) (l : ℕ) (c : Cell ℕ) (b : Body ℕ) → find nat_eq cells l ≡ Some c → rebodied cells l b ≡ put nat_eq cells l (with_body c b)
 rebodied_is cells l c b h = ap (λ o. option_map_or (λ d. put nat_eq cells l (with_body d b)) o cells) h
-
--- a value that was written twice at one location of an owner
-module _ {T : Type 0} (maps new : List (ℕ × List (ℕ × T))) (o l : ℕ) (x : T) (s : Stands (keys maps) o) (e : new ≡ put nat_eq maps o (put nat_eq (values_of maps o) l x)) where
-  pub among_written : IsAmong maps o l → IsAmong new o l
-  among_written h =
-      let own : values_of new o ≡ put nat_eq (values_of maps o) l x = ap (λ ms. values_of ms o) e ∙ values-put maps o (put nat_eq (values_of maps o) l x) s in
-      subst (λ ks. Stands ks l) (sym (ap keys own ∙ keys-put (values_of maps o) l x)) h
-
-  pub written_twice : (y : T) (last : List (ℕ × List (ℕ × T))) → last ≡ put nat_eq new o (put nat_eq (values_of new o) l y) → last ≡ put nat_eq maps o (put nat_eq (values_of maps o) l y)
-  written_twice y last q =
-      let once = put nat_eq (values_of maps o) l x in
-      q ∙ ap (λ ms. put nat_eq ms o (put nat_eq (values_of ms o) l y)) e
-      ∙ ap (λ cs. put nat_eq (put nat_eq maps o once) o (put nat_eq cs l y)) (values-put maps o once s)
-      ∙ put-put maps o once (put nat_eq once l y)
-      ∙ ap (put nat_eq maps o) (put-put (values_of maps o) l x y)
 
 -- A cell with another body of the same prototype is alike, and fits where the body does.
 pub alike_body : (c : Cell ℕ) (b d : Body ℕ) → body_of c ≡ Some b → d.proto ≡ b.proto → Alike c (with_body c d)

@@ -29,99 +29,37 @@ pub fn body(cell: &Cell) -> Option<&Body>
     }
 }
 
-// The cell with another body, and the body that it had. A cell without a body stays as it is.
-pub(crate) fn exchanged(cell: Cell, new: Body) -> (Cell, Option<Body>)
-    ensures cell { result.0 ≡ with_body cell new }
-    ensures body { result.1 ≡ body_of cell }
+// Puts a body in the place of that of a cell, and gives that one back. A cell without a body stays as it is.
+pub(crate) fn exchange(cell: &mut Cell, new: Body) -> Option<Body>
+    ensures cell { cell.new ≡ with_body cell.old new }
+    ensures body { result ≡ body_of cell.old }
 {
     match cell {
-        Cell::Object { body } => (Cell::Object { body: new }, Some(body)),
-        Cell::Closure {
-            body,
-            node,
-            env,
-            receiver,
-        } => (
-            Cell::Closure {
-                body: new,
-                node,
-                env,
-                receiver,
-            },
-            Some(body),
-        ),
-        Cell::Native { body, id, kept } => (
-            Cell::Native {
-                body: new,
-                id,
-                kept,
-            },
-            Some(body),
-        ),
-        Cell::Far { body, number } => (Cell::Far { body: new, number }, Some(body)),
-        Cell::Error { body, kind } => (Cell::Error { body: new, kind }, Some(body)),
-        Cell::Map { body, entries } => (Cell::Map { body: new, entries }, Some(body)),
-        Cell::Set { body, entries } => (Cell::Set { body: new, entries }, Some(body)),
-        Cell::Promise {
-            body,
-            state,
-            reactions,
-        } => (
-            Cell::Promise {
-                body: new,
-                state,
-                reactions,
-            },
-            Some(body),
-        ),
-        Cell::Port {
-            body,
-            number,
-            handler,
-            on_message,
-            on_close,
-        } => (
-            Cell::Port {
-                body: new,
-                number,
-                handler,
-                on_message,
-                on_close,
-            },
-            Some(body),
-        ),
-        Cell::Buffer { body, bytes } => (Cell::Buffer { body: new, bytes }, Some(body)),
-        Cell::View {
-            body,
-            buffer,
-            offset,
-            length,
-        } => (
-            Cell::View {
-                body: new,
-                buffer,
-                offset,
-                length,
-            },
-            Some(body),
-        ),
-        other => {
+        Cell::Object { body } => Some(std::mem::replace(body, new)),
+        Cell::Closure { body, .. } => Some(std::mem::replace(body, new)),
+        Cell::Native { body, .. } => Some(std::mem::replace(body, new)),
+        Cell::Far { body, .. } => Some(std::mem::replace(body, new)),
+        Cell::Error { body, .. } => Some(std::mem::replace(body, new)),
+        Cell::Map { body, .. } => Some(std::mem::replace(body, new)),
+        Cell::Set { body, .. } => Some(std::mem::replace(body, new)),
+        Cell::Promise { body, .. } => Some(std::mem::replace(body, new)),
+        Cell::Port { body, .. } => Some(std::mem::replace(body, new)),
+        Cell::Buffer { body, .. } => Some(std::mem::replace(body, new)),
+        Cell::View { body, .. } => Some(std::mem::replace(body, new)),
+        Cell::Array { .. } | Cell::Symbol { .. } | Cell::Env { .. } => {
             discard(new);
-            (other, None)
+            None
         }
     }
 }
 
-// A buffer with another byte at a place; any other cell stays as it is.
-pub(crate) fn written(cell: Cell, at: usize, byte: u8) -> Cell
-    ensures { result ≡ with_byte cell at byte }
+// Puts another byte at a place of a buffer; any other cell stays as it is.
+pub(crate) fn write(cell: &mut Cell, at: usize, byte: u8)
+    ensures { cell.new ≡ with_byte cell.old at byte }
 {
     match cell {
-        Cell::Buffer { body, mut bytes } => {
-            put_byte(&mut bytes, at, byte);
-            Cell::Buffer { body, bytes }
-        }
-        other => other,
+        Cell::Buffer { bytes, .. } => put_byte(bytes, at, byte),
+        _ => {}
     }
 }
 

@@ -12,7 +12,6 @@ ghost use Rattle.world_heap.specs.Growth.{grown, first_passed, Adds, Grows};
 ghost use Rattle.world_heap.specs.Bounded.{bounds_of};
 ghost use Rattle.world_heap.specs.Starting.{IsNew, empty_heap, with_built_in};
 
-use crate::bodies::{exchanged, written};
 use crate::builtin::{BuiltIn, place_number};
 use crate::cell::{Binding, Body, Cell};
 use crate::limits::{Counts, Full, HeapFault, Limits};
@@ -273,12 +272,7 @@ impl Heap {
         ensures was { option_and_then body_of (find nat_eq self.old.cells loc) ≡ Some result }
         ensures is { self.new ≡ record self.old { cells = rebodied self.old.cells loc body } }
     {
-        let cell = self
-            .store
-            .replace(loc.number(), Cell::Symbol { text: None });
-        let (cell, was) = exchanged(cell, body);
-        discard(self.store.replace(loc.number(), cell));
-        match was {
+        match self.store.replace_body(loc.number(), body) {
             Some(was) => was,
             None => unreachable!(),
         }
@@ -290,11 +284,7 @@ impl Heap {
         requires { IsCell nat_eq self.old.cells loc }
         ensures { self.new ≡ record self.old { cells = rewritten self.old.cells loc at byte } }
     {
-        let cell = self
-            .store
-            .replace(loc.number(), Cell::Symbol { text: None });
-        let cell = written(cell, at, byte);
-        discard(self.store.replace(loc.number(), cell));
+        self.store.write_byte(loc.number(), at, byte);
     }
 
     /// Puts a binding in the place of another of an environment, where it has one there; another cell stays as it is. It

@@ -1,14 +1,14 @@
 //! Values of several owners in one store of slots, each owner's in the order in which they came.
 ghost use Rattle.std.specs.Prelude.{◌≡◌, ◌↔◌, IsTrue, ℕ, ◌+◌, ◌<◌, ◌≤◌, ◌++◌, [], ◌∷◌, Some, None, false, length, replicate, position, slice_get, slice_index_or, ◌==◌, sum_by, nat_eq, MatchOption, OnOk, OnErr, IfOk};
 ghost use Rattle.cell_chunks.specs.Slots.{vacancies};
-ghost use Rattle.world_heap.specs.Bodies.{with_binding};
+ghost use Rattle.world_heap.specs.Bodies.{body_of, with_binding, with_body, with_byte};
 ghost use Rattle.world_heap.specs.declared.cell.Cell as kept;
 ghost use Rattle.world_heap.specs.Maps.{keys, find, put, without, stands, Stands};
 ghost use Rattle.world_heap.specs.Shelf.{values_of, IsAmong, Apart};
 ghost use Rattle.world_heap.specs.Stored.{owners, IsAt, IsDistinct};
 
-use crate::bodies::bind;
-use crate::cell::{Binding, Cell};
+use crate::bodies::{bind, exchange, write};
+use crate::cell::{Binding, Body, Cell};
 use cell_chunks::{Chunks, Slot};
 use sqlite_items::Items;
 use std::alloc::{AllocError, Global};
@@ -228,6 +228,25 @@ impl<T: Drop> Store<T> {
 }
 
 impl Store<Cell> {
+    /// Puts a body in the place of that of a cell, and gives that one back; a cell without a body stays as it is.
+    pub fn replace_body(&mut self, loc: u32, body: Body) -> Option<Body>
+        requires { (owner : ℕ) × IsAmong self.old owner loc }
+        ensures was { (owner : ℕ) (cell : kept.Cell ℕ) → find nat_eq (values_of self.old owner) loc ≡ Some cell → result ≡ body_of cell }
+        ensures is { (owner : ℕ) (cell : kept.Cell ℕ) → find nat_eq (values_of self.old owner) loc ≡ Some cell
+            → self.new ≡ put nat_eq self.old owner (put nat_eq (values_of self.old owner) loc (with_body cell body)) }
+    {
+        exchange(self.chunks.get_mut(Slot(loc)), body)
+    }
+
+    /// Puts a byte at a place of a buffer, where it has one; another cell stays as it is.
+    pub fn write_byte(&mut self, loc: u32, at: usize, byte: u8)
+        requires { (owner : ℕ) × IsAmong self.old owner loc }
+        ensures { (owner : ℕ) (cell : kept.Cell ℕ) → find nat_eq (values_of self.old owner) loc ≡ Some cell
+            → self.new ≡ put nat_eq self.old owner (put nat_eq (values_of self.old owner) loc (with_byte cell at byte)) }
+    {
+        write(self.chunks.get_mut(Slot(loc)), at, byte);
+    }
+
     /// Puts a binding in the place of another of an environment, where it has one there; another cell stays as it is.
     pub fn set_binding(&mut self, loc: u32, place: usize, binding: Binding)
         requires { (owner : ℕ) × IsAmong self.old owner loc }
