@@ -1,5 +1,5 @@
 -- A cell whose body is exchanged.
-use Rattle.std.proofs.Common.{◌≡◌, ℕ, zero, suc, List, [], ◌∷◌, Some, None, Option, refl, sym, ap, ◌∙◌, subst, nat_eq, length-set, set}
+use Rattle.std.proofs.Common.{◌≡◌, ℕ, zero, suc, true, false, List, [], ◌∷◌, Some, None, Option, refl, sym, ap, ◌∙◌, subst, nat_eq, if◌then◌else◌, length-set, set}
 use Rattle.std.specs.Option.{option_and_then, option_map_or}
 use Rattle.world_heap.specs.declared.cell.Binding.{Binding}
 use Rattle.world_heap.specs.declared.cell.Body.{Body}
