@@ -123,6 +123,7 @@ fn write(
 ///
 /// # Errors
 /// `Memory` where there is none; `Dangling` where a location was met that stands nowhere.
+#[inline(always)]
 pub fn write_name(
     state: &mut State,
     tree: &Tree,

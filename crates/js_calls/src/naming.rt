@@ -73,6 +73,7 @@ pub fn global_holder(state: &State, name: &Units) -> Result<Option<Value>, StepF
 ///
 /// # Errors
 /// `Memory` where there is none; `Dangling` where the global object stands nowhere.
+#[inline(always)]
 pub fn meaning_of(state: &State, env: Loc, name: &Units) -> Result<Named, StepFault>
     ensures is { (nodes : List kind.Node) (supply : ℕ → ℕ) → IfOk result (λ is. is ≡ named (binding_of env name.now (world_of nodes supply state.now)) (global_holder name.now (world_of nodes supply state.now))) }
     ensures closed { (nodes : List kind.Node) → IsClosed nodes state.now → MatchResult result (λ is. NamedFits state.now.heap.cells is) (λ fault. fault ≡ StepFault.Memory) }

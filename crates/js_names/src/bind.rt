@@ -48,6 +48,7 @@ fn may_stand(heap: &Heap, value: &Value) -> bool
 /// Errors, after which the heap is as it was: `Dangling` where the value's location is no object's, or its number isn't
 /// from -(2^53-1) to 2^53-1; `Memory` where memory runs out: the name is copied. The cost is linear in the
 /// environment's bindings.
+#[inline(always)]
 pub fn bind_in(
     alloc: Global,
     heap: &mut Heap,

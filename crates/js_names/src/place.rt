@@ -82,6 +82,7 @@ fn binding_in(cell: &Cell, place: usize) -> Option<&Binding>
 /// (ECMA-262, 9.1.2.1: GetIdentifierReference).
 ///
 /// It takes no memory. The cost is linear in the bindings of the environments that are searched.
+#[inline(always)]
 pub fn binding_of<'a>(heap: &'a Heap, env: Loc, name: &Units) -> Option<(Loc, &'a Binding)>
     ensures { (w : World ℕ) → option_map (λ found. (found.0, found.1.now)) result ≡ binding_of env name.now (over heap.now w) }
 {

@@ -14,6 +14,7 @@ use js_tree::Tree;
 use world_heap::Value;
 
 /// Writes a place, and then gives another value as that of the row. The cost is that of `write_name` or `set`.
+#[inline(always)]
 pub fn write_place(
     state: &mut State,
     tree: &Tree,

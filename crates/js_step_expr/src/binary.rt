@@ -61,6 +61,7 @@ pub fn binary_left(
 }
 
 // What an operator comes to on two values, where it reads no property.
+#[inline(always)]
 fn answer_of(
     state: &State,
     operator: BinaryOperator,
@@ -87,6 +88,7 @@ fn answer_of(
 /// # Errors
 /// `Memory` where there is none; `Dangling` where the right side of `in` is at a location that stands nowhere, or the
 /// prototype of errors does.
+#[inline(always)]
 pub fn apply(
     state: &mut State,
     operator: BinaryOperator,

@@ -34,6 +34,7 @@ pub fn make_text(state: &mut State, text: Units) -> Result<Value, Next>
 ///
 /// # Errors
 /// `Memory` where there is none, `Dangling` where the prototype of errors stands nowhere.
+#[inline(always)]
 pub fn settle(state: &mut State, answer: Answer) -> Result<Result<Value, Next>, StepFault>
     ensures does { (nodes : List kind.Node) (k : values.Value ℕ → Prog ℕ) → IfOk result (λ settled. Settles nodes (compute (computed_of answer) k) k state.old state.new settled) }
     ensures closed { (nodes : List kind.Node) → IsClosed nodes state.old → AnswerFits state.old.heap.cells answer → LastsWith SettledFits nodes state.old state.new result }
