@@ -23,6 +23,7 @@ use world_log::Stop;
 
 impl State {
     // Makes a cell, or stops.
+    #[inline(always)]
     fn make(&mut self, cell: Cell) -> Result<Result<Loc, Stop>, StepFault>
         requires { Fits nat_eq self.old.heap.cells cell }
         ensures { MatchResult result (λ got. Allocates cell self.old self.new got) (λ fault. units_of cell ≡ 0 → fault ≡ StepFault.Memory) }
@@ -46,6 +47,7 @@ impl State {
     }
 
     /// Makes an environment (ECMA-262, 9.1), or stops.
+    #[inline(always)]
     pub fn make_environment(
         &mut self,
         outer: Option<Loc>,

@@ -117,6 +117,7 @@ fn take_step(state: &mut State) -> bool
 
 // The value of a node that is at hand, or is composed in place, with its steps taken.
 #[cycle(composed)]
+#[inline(always)]
 fn operand(
     state: &mut State,
     tree: &Tree,

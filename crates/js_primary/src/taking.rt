@@ -184,6 +184,7 @@ fn name_found(
 ///
 /// # Errors
 /// Those of `take_value`.
+#[inline(always)]
 pub fn take_bound(
     state: &mut State,
     tree: &Tree,

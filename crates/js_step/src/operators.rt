@@ -14,6 +14,7 @@ use js_tree::{Node, NodeId, Tree};
 
 /// The row of an operator with its operands, or of an assignment (ECMA-262, 13.4 to 13.16).
 #[tactic(auto, unfolding(js_semantics::specs::Rows::row_of))]
+#[inline(always)]
 pub(crate) fn row_operator(
     state: &mut State,
     tree: &Tree,

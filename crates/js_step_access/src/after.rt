@@ -163,6 +163,7 @@ fn assign_by(
 }
 
 /// The old value of the target of an assignment by an operator: evaluates the other operand in place, or enters it.
+#[inline(always)]
 pub fn after_assign_by(
     state: &mut State,
     tree: &Tree,

@@ -152,6 +152,7 @@ pub fn do_tested(
 }
 
 /// A turn of a `for`: its test, or its body where it has no test.
+#[inline(always)]
 pub fn enter_for(state: &mut State, turn: ForLoop, scope: Scope) -> Result<Next, StepFault>
     ensures does { (nodes : List kind.Node) → IfOk result (λ next. Does nodes 6 (Enter (For turn.copied turn.test turn.next turn.body scope) (λ o. End o)) state.old state.new next) }
     ensures closed { (nodes : List kind.Node) → IsClosed nodes state.old → ScopeFits nodes state.old.heap.cells scope → Lasts nodes state.old state.new result }
@@ -168,6 +169,7 @@ pub fn enter_for(state: &mut State, turn: ForLoop, scope: Scope) -> Result<Next,
 }
 
 /// What follows the test of a `for`.
+#[inline(always)]
 pub fn for_tested(
     state: &mut State,
     turn: ForLoop,
@@ -186,6 +188,7 @@ pub fn for_tested(
 }
 
 /// What stands third in a `for`, where it is to be done, and then the next turn.
+#[inline(always)]
 pub fn step_then(
     state: &mut State,
     turn: ForLoop,

@@ -23,6 +23,7 @@ use sqlite_items::Items;
 use world_heap::{Binding, Loc};
 
 // Goes on in a new environment.
+#[inline(always)]
 fn in_copy(
     state: &mut State,
     turn: ForLoop,
@@ -41,6 +42,7 @@ fn in_copy(
 }
 
 // Copies the environment where the loop has one for each turn, and goes on there.
+#[inline(always)]
 fn copied_turn(
     state: &mut State,
     turn: ForLoop,
