@@ -49,6 +49,7 @@ fn binding_target(env: Loc, binding: &Binding) -> Target
 
 // What a name stands for where it is written.
 #[tactic(auto, unfolding(crate::specs::Assigning::target_of))]
+#[inline(always)]
 fn target_of(state: &State, env: Loc, name: &Units) -> Result<Target, StepFault>
     ensures is { (nodes : List kind.Node) (supply : ℕ → ℕ) → IfOk result (λ target. target ≡ target_of (binding_of env name.now (world_of nodes supply state.now)) (global_holder name.now (world_of nodes supply state.now))) }
     ensures closed { (nodes : List kind.Node) → IsClosed nodes state.now → MatchResult result (λ target. TargetFits state.now.heap.cells target) (λ fault. fault ≡ StepFault.Memory) }
@@ -94,6 +95,7 @@ fn refuse(
 
 // Writes what a name stands for.
 #[tactic(auto, unfolding(crate::specs::Assigning::write_by))]
+#[inline(always)]
 fn write(
     state: &mut State,
     tree: &Tree,

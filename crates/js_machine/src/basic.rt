@@ -17,6 +17,7 @@ use world_heap::{Loc, Value};
 use world_log::{Product, Stop};
 
 /// Lets a value go. A generic function keeps the cases of its drop out of its callers' proofs.
+#[inline(always)]
 pub fn discard<T: Drop>(_value: T) {}
 
 // Lets a value go for which there was no memory. It stands apart from its callers' code, which goes on without it.

@@ -143,6 +143,7 @@ fn declare_item(
 
 /// The bindings that the items of a block or script declare, in the order of the text, none of them ready (ECMA-262,
 /// 8.2.4: LexicallyScopedDeclarations). The cost is linear in the items and their patterns.
+#[inline(always)]
 pub fn declared_in(
     alloc: Global,
     tree: &Tree,

@@ -25,6 +25,7 @@ fn place_among(bindings: &[Binding], name: &Units) -> Option<usize>
 }
 
 // What is seen of a name in a cell.
+#[inline(always)]
 fn look(cell: &Cell, name: &Units) -> Seen
     ensures { result ≡ seen_in cell.now name.now }
 {
@@ -58,6 +59,7 @@ fn place_in(cell: &Cell, name: &Units) -> Option<(usize, bool)>
 /// The place of a name among the bindings of an environment record (ECMA-262, 9.1.1), and whether the binding there is
 /// fixed; none where the location is that of no environment, or the environment doesn't bind the name. The cost is linear
 /// in the environment's bindings.
+#[inline(always)]
 pub fn place_at(heap: &Heap, env: Loc, name: &Units) -> Option<(usize, bool)>
     ensures place { option_map (λ found. found.0) result ≡ place_under (find nat_eq heap.now.cells env) name.now }
     ensures fixed { IfSome result (λ found. (binding : kept.Binding ℕ) × (binding_under (find nat_eq heap.now.cells env) found.0 ≡ Some binding) × (binding.fixed ≡ found.1)) }

@@ -150,6 +150,7 @@ fn operand(
 /// # Errors
 /// Those of `composed`.
 #[cycle(composed)]
+#[inline(always)]
 pub(crate) fn operands(
     state: &mut State,
     tree: &Tree,
@@ -178,6 +179,7 @@ pub(crate) fn operands(
 // The row of an operator between two operands.
 #[cycle(composed)]
 #[tactic(auto, unfolding(js_semantics::specs::Expressions::row_binary))]
+#[inline(always)]
 fn binary(
     state: &mut State,
     tree: &Tree,

@@ -163,6 +163,7 @@ pub fn take_value(
 
 // The value of the name with a number, where it has a binding that is ready.
 #[tactic(auto, unfolding(crate::specs::AtHand::name_at_hand))]
+#[inline(always)]
 fn name_found(
     state: &State,
     tree: &Tree,

@@ -134,6 +134,7 @@ fn write_applied(
 }
 
 // The other operand of an assignment by an operator that reads no property: it is evaluated in place, or entered.
+#[inline(always)]
 fn assign_by(
     state: &mut State,
     tree: &Tree,
